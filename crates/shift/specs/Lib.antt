@@ -1,0 +1,3 @@
+pub mod Shifts
+pub mod Compose
+pub mod Answers
