@@ -12,7 +12,6 @@ ghost use Rattle.word.specs.Answers.{checked, told};
 ghost use Rattle.shift.specs.Shifts.{variantNumber, variantAt, widthOf, cyclicOf, rowOf, valid, applyOf, numberOf, validNumber, shiftAt};
 ghost use Rattle.shift.specs.Compose.{composeValid};
 ghost use Rattle.shift.specs.Answers.{applied, toldNumber, numbered, toldFound, found, toldComposed, composed, values};
-
 use word::Shifted;
 
 pub mod valid;

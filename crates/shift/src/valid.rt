@@ -7,7 +7,6 @@ ghost use Rattle.shift.specs.Shifts.{variantNumber, widthOf, Valid, shif
 ghost use Rattle.shift.specs.Compose.{turned, runOut, chainedOf, firstOf, degenerates, chains, chainOf, makesOf, composeValid};
 ghost use Rattle.shift.specs.declared.Makes.{Makes};
 ghost use Rattle.shift.specs.declared.Makes.the-variants.{Neither};
-
 use crate::Composition;
 use crate::Makes;
 use crate::Shift;
@@ -65,15 +64,20 @@ fn run_out(v: ShiftVariant) -> Composition
     ensures { λ r. ⌜ r ≡ runOut v ⌝ }
 {
     match v {
+        ShiftVariant::Sll => Composition::Zero,
+        ShiftVariant::Slr => Composition::Zero,
         ShiftVariant::Sar => Composition::Single(Shift {
             variant: ShiftVariant::Sar,
             amount: 63,
         }),
+        ShiftVariant::Rotr => Composition::Zero,
+        ShiftVariant::Sll32 => Composition::Zero,
+        ShiftVariant::Srl32 => Composition::Zero,
         ShiftVariant::Sra32 => Composition::Single(Shift {
             variant: ShiftVariant::Sra32,
             amount: 31,
         }),
-        _ => Composition::Zero,
+        ShiftVariant::Rotr32 => Composition::Zero,
     }
 }
 

@@ -1,0 +1,5 @@
+pub mod Variants
+pub mod Linear
+mod Rules
+pub mod Composes
+pub mod Numbers

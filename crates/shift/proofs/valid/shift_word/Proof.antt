@@ -1,0 +1,116 @@
+-- Each arm is what the definition says of its variant. Assumes nothing.
+use mathlib.Core.Path.{sym, ap, _∙_}
+use Rattle.shift.specs.declared.ShiftVariant.{ShiftVariant}
+use Rattle.shift.specs.Shifts.{shifted}
+use borrow.Author.Needs.{needs}
+use Rattle.shift.proofs.valid.shift_word.Statement.{statement}
+use Rattle.shift.proofs.valid.shift_word.Tie as tie
+
+enum-told : tie.Need-enum-told
+enum-told c = search needs
+
+sll-requires : tie.Need-sll-requires
+sll-requires c κs = rw (c .enum-told .given .1) at (c .before .before .pre)
+
+enum-told-2 : tie.Need-enum-told-2
+enum-told-2 c = search needs
+
+slr-requires : tie.Need-slr-requires
+slr-requires c κs = rw (c .enum-told2 .given .1) at (c .before .before .pre)
+
+enum-told-3 : tie.Need-enum-told-3
+enum-told-3 c = search needs
+
+sar-requires : tie.Need-sar-requires
+sar-requires c κs = rw (c .enum-told3 .given .1) at (c .before .before .pre)
+
+enum-told-4 : tie.Need-enum-told-4
+enum-told-4 c = search needs
+
+rotr-requires : tie.Need-rotr-requires
+rotr-requires c κs = rw (c .enum-told4 .given .1) at (c .before .before .pre)
+
+enum-told-5 : tie.Need-enum-told-5
+enum-told-5 c = search needs
+
+sll32-requires : tie.Need-sll32-requires
+sll32-requires c κs = rw (c .enum-told5 .given .1) at (c .before .before .pre)
+
+enum-told-6 : tie.Need-enum-told-6
+enum-told-6 c = search needs
+
+srl32-requires : tie.Need-srl32-requires
+srl32-requires c κs = rw (c .enum-told6 .given .1) at (c .before .before .pre)
+
+enum-told-7 : tie.Need-enum-told-7
+enum-told-7 c = search needs
+
+sra32-requires : tie.Need-sra32-requires
+sra32-requires c κs = rw (c .enum-told7 .given .1) at (c .before .before .pre)
+
+enum-told-8 : tie.Need-enum-told-8
+enum-told-8 c = search needs
+
+rotr32-requires : tie.Need-rotr32-requires
+rotr32-requires c κs = rw (c .enum-told8 .given .1) at (c .before .before .pre)
+
+returns : tie.Need-returns
+unfolding shifted
+returns c = c .sll .ensures ∙ sym (ap (λ (x : ShiftVariant). shifted x (c .before .before .before .args .n) (c .before .before .before .args .w)) (c .before .enum-told .given .1))
+
+returns-2 : tie.Need-returns-2
+unfolding shifted
+returns-2 c = c .slr .ensures ∙ sym (ap (λ (x : ShiftVariant). shifted x (c .before .before .before .args .n) (c .before .before .before .args .w)) (c .before .enum-told2 .given .1))
+
+returns-3 : tie.Need-returns-3
+unfolding shifted
+returns-3 c = c .sar .ensures ∙ sym (ap (λ (x : ShiftVariant). shifted x (c .before .before .before .args .n) (c .before .before .before .args .w)) (c .before .enum-told3 .given .1))
+
+returns-4 : tie.Need-returns-4
+unfolding shifted
+returns-4 c = c .rotr .ensures ∙ sym (ap (λ (x : ShiftVariant). shifted x (c .before .before .before .args .n) (c .before .before .before .args .w)) (c .before .enum-told4 .given .1))
+
+returns-5 : tie.Need-returns-5
+unfolding shifted
+returns-5 c = c .sll32 .ensures ∙ sym (ap (λ (x : ShiftVariant). shifted x (c .before .before .before .args .n) (c .before .before .before .args .w)) (c .before .enum-told5 .given .1))
+
+returns-6 : tie.Need-returns-6
+unfolding shifted
+returns-6 c = c .srl32 .ensures ∙ sym (ap (λ (x : ShiftVariant). shifted x (c .before .before .before .args .n) (c .before .before .before .args .w)) (c .before .enum-told6 .given .1))
+
+returns-7 : tie.Need-returns-7
+unfolding shifted
+returns-7 c = c .sra32 .ensures ∙ sym (ap (λ (x : ShiftVariant). shifted x (c .before .before .before .args .n) (c .before .before .before .args .w)) (c .before .enum-told7 .given .1))
+
+returns-8 : tie.Need-returns-8
+unfolding shifted
+returns-8 c = c .rotr32 .ensures ∙ sym (ap (λ (x : ShiftVariant). shifted x (c .before .before .before .args .n) (c .before .before .before .args .w)) (c .before .enum-told8 .given .1))
+
+pub shift-word-spec : {M : Type 1} → statement M
+shift-word-spec =
+    tie.close
+    (tie.spec
+    enum-told
+    sll-requires
+    enum-told-2
+    slr-requires
+    enum-told-3
+    sar-requires
+    enum-told-4
+    rotr-requires
+    enum-told-5
+    sll32-requires
+    enum-told-6
+    srl32-requires
+    enum-told-7
+    sra32-requires
+    enum-told-8
+    rotr32-requires
+    returns
+    returns-2
+    returns-3
+    returns-4
+    returns-5
+    returns-6
+    returns-7
+    returns-8)
