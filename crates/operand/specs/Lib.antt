@@ -1,0 +1,3 @@
+pub mod Push
+pub mod Terms
+pub mod Examples
