@@ -71,41 +71,28 @@ pub enum Makes {
     Neither,
 }
 
+const FULL: Row = Row {
+    width: 64,
+    cyclic: false,
+};
+
+const FULL_CYCLIC: Row = Row {
+    width: 64,
+    cyclic: true,
+};
+
+const HALF: Row = Row {
+    width: 32,
+    cyclic: false,
+};
+
+const HALF_CYCLIC: Row = Row {
+    width: 32,
+    cyclic: true,
+};
+
 // Width and cyclic kind, by the variant's number.
-const ROWS: [Row; 8] = [
-    Row {
-        width: 64,
-        cyclic: false,
-    },
-    Row {
-        width: 64,
-        cyclic: false,
-    },
-    Row {
-        width: 64,
-        cyclic: false,
-    },
-    Row {
-        width: 64,
-        cyclic: true,
-    },
-    Row {
-        width: 32,
-        cyclic: false,
-    },
-    Row {
-        width: 32,
-        cyclic: false,
-    },
-    Row {
-        width: 32,
-        cyclic: false,
-    },
-    Row {
-        width: 32,
-        cyclic: true,
-    },
-];
+const ROWS: [Row; 8] = [FULL, FULL, FULL, FULL_CYCLIC, HALF, HALF, HALF, HALF_CYCLIC];
 
 impl ShiftVariant {
     // Rust's `variant as u8`.

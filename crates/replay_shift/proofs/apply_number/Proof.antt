@@ -1,0 +1,31 @@
+-- The two arms are those of the definition, by whether the number is that of a shift. Assumes nothing.
+use mathlib.Core.Path.{sym, _∙_}
+use Rattle.replay_shift.specs.Replay.{applyNumber}
+use borrow.Author.Needs.{needs}
+use Rattle.replay_shift.proofs.apply_number.Statement.{statement}
+use Rattle.replay_shift.proofs.apply_number.Tie as tie
+
+from-index-requires : tie.Need-from-index-requires
+from-index-requires c κs = search needs
+
+enum-known-f : tie.Need-enum-known-f
+enum-known-f c = search needs
+
+apply-at-requires : tie.Need-apply-at-requires
+apply-at-requires c κs = search needs
+
+enum-told : tie.Need-enum-told
+enum-told c = search needs
+
+returns : tie.Need-returns
+unfolding applyNumber
+returns c = rw (sym (c .before .before .before .before .from-index .ensures .0) ∙ c .before .before .f .given .1) (c .apply-at .ensures)
+
+returns-2 : tie.Need-returns-2
+unfolding applyNumber
+returns-2 c = rw (sym (c .before .before .from-index .ensures .0) ∙ c .enum-told .given .1)
+
+pub apply-number-spec : {M : Type 1} → statement M
+apply-number-spec =
+    tie.close
+    (tie.spec from-index-requires enum-known-f apply-at-requires enum-told returns returns-2)
