@@ -1,11 +1,11 @@
--- A turn, as code makes it: the two parts by two shifts, joined by `|`. Assumes nothing.
+-- A turn, as code makes it: the two parts by two shifts, joined by `|`; and two halves, joined again. Assumes nothing.
 use mathlib.Core.Path.{_≡_, refl, sym, ap, ap₂, _∙_, subst}
 use Prim.Native.Nat.{ℕ, zero, suc, _+_, _-_, _*_, _/_, _%_, _^_, _≤_, _<_}
 use native.Mathlib.Nat.{mul-mod-left, add-zero, mod-one, div-one, zero-mul, zero-add}
 use native.Mathlib.Omega.{arith}
 use lib.Pow.{mod-pow-add, shl-shr, shr-lt}
 use lib.Bits.{bitOr, or-shifted-r}
-use Rattle.word.specs.Word.{turn}
+use Rattle.word.specs.Word.{turn, halves}
 
 pub turn-none : (k w : ℕ) → turn k 0 w ≡ w
 unfolding turn
@@ -25,3 +25,7 @@ or-turn k n w h l =
   where
     e : n + (k - n) ≡ k
     e = omega arith
+
+pub joined : (f : ℕ → ℕ) (w : ℕ) {r hi lo : ℕ} → r ≡ hi * 2 ^ 32 + lo → hi ≡ f (w / 2 ^ 32) → lo ≡ f (w % 2 ^ 32) → r ≡ halves f w
+unfolding halves
+joined f w e up down = e ∙ ap₂ (λ (x y : ℕ). x * 2 ^ 32 + y) up down

@@ -56,35 +56,35 @@ rotr32-requires c κs = rw (c .enum-told8 .given .1) at (c .before .before .pre)
 
 returns : tie.Need-returns
 unfolding shifted
-returns c = c .sll .ensures ∙ sym (ap (λ (x : ShiftVariant). shifted x (c .before .before .before .args .n) (c .before .before .before .args .w)) (c .before .enum-told .given .1))
+returns c = rw (c .before .enum-told .given .1) (c .sll .ensures)
 
 returns-2 : tie.Need-returns-2
 unfolding shifted
-returns-2 c = c .slr .ensures ∙ sym (ap (λ (x : ShiftVariant). shifted x (c .before .before .before .args .n) (c .before .before .before .args .w)) (c .before .enum-told2 .given .1))
+returns-2 c = rw (c .before .enum-told2 .given .1) (c .slr .ensures)
 
 returns-3 : tie.Need-returns-3
 unfolding shifted
-returns-3 c = c .sar .ensures ∙ sym (ap (λ (x : ShiftVariant). shifted x (c .before .before .before .args .n) (c .before .before .before .args .w)) (c .before .enum-told3 .given .1))
+returns-3 c = rw (c .before .enum-told3 .given .1) (c .sar .ensures)
 
 returns-4 : tie.Need-returns-4
 unfolding shifted
-returns-4 c = c .rotr .ensures ∙ sym (ap (λ (x : ShiftVariant). shifted x (c .before .before .before .args .n) (c .before .before .before .args .w)) (c .before .enum-told4 .given .1))
+returns-4 c = rw (c .before .enum-told4 .given .1) (c .rotr .ensures)
 
 returns-5 : tie.Need-returns-5
 unfolding shifted
-returns-5 c = c .sll32 .ensures ∙ sym (ap (λ (x : ShiftVariant). shifted x (c .before .before .before .args .n) (c .before .before .before .args .w)) (c .before .enum-told5 .given .1))
+returns-5 c = rw (c .before .enum-told5 .given .1) (c .sll32 .ensures)
 
 returns-6 : tie.Need-returns-6
 unfolding shifted
-returns-6 c = c .srl32 .ensures ∙ sym (ap (λ (x : ShiftVariant). shifted x (c .before .before .before .args .n) (c .before .before .before .args .w)) (c .before .enum-told6 .given .1))
+returns-6 c = rw (c .before .enum-told6 .given .1) (c .srl32 .ensures)
 
 returns-7 : tie.Need-returns-7
 unfolding shifted
-returns-7 c = c .sra32 .ensures ∙ sym (ap (λ (x : ShiftVariant). shifted x (c .before .before .before .args .n) (c .before .before .before .args .w)) (c .before .enum-told7 .given .1))
+returns-7 c = rw (c .before .enum-told7 .given .1) (c .sra32 .ensures)
 
 returns-8 : tie.Need-returns-8
 unfolding shifted
-returns-8 c = c .rotr32 .ensures ∙ sym (ap (λ (x : ShiftVariant). shifted x (c .before .before .before .args .n) (c .before .before .before .args .w)) (c .before .enum-told8 .given .1))
+returns-8 c = rw (c .before .enum-told8 .given .1) (c .rotr32 .ensures)
 
 pub shift-word-spec : {M : Type 1} → statement M
 shift-word-spec =

@@ -1,3 +1,4 @@
+-- As sar, at 32 bits. Assumes nothing.
 use Rattle.word.proofs.Moves.{arith-low, arith-high}
 use native.Mathlib.Omega.{arith}
 use native.Mathlib.Nat.{div-le-self}

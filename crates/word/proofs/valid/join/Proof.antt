@@ -1,3 +1,4 @@
+-- The upper half has no bit in common with the lower one. Assumes nothing.
 use native.Mathlib.Omega.{arith}
 use Prim.Native.Nat.{ℕ, _*_, _%_, _^_}
 use mathlib.Core.Path.{_≡_, ap, _∙_}

@@ -1,3 +1,4 @@
+-- What is divided does not grow. Assumes nothing.
 use native.Mathlib.Omega.{arith}
 use native.Mathlib.Nat.{div-le-self}
 use Prim.Native.Nat.{_^_}

@@ -1,3 +1,4 @@
+-- The two parts are joined by `|`; a turn by 0 leaves the word. Assumes nothing.
 use native.Mathlib.Omega.{arith}
 use mathlib.Core.Path.{sym}
 use Rattle.word.proofs.Turns.{turn-none, or-turn}

@@ -1,3 +1,4 @@
+-- The two parts are joined by `|`, and a turn keeps a number of 32 bits. Assumes nothing.
 use native.Mathlib.Omega.{arith}
 use mathlib.Core.Path.{ap, _∙_, sym, subst}
 use Prim.Native.Nat.{ℕ, _<_, _/_, _*_, _^_, _-_}
