@@ -1,6 +1,8 @@
 -- The answers that the replay takes together: compose of all pairs of valid shifts, push_inner of a spread of triples, apply of all valid
 -- shifts to 300 words. Assumes nothing.
-use Prim.Native.Nat.{ℕ, _+_, _*_, _%_}
+use Prim.Native.Nat.{ℕ, _+_, _-_, _*_, _/_, _%_}
+use mathlib.Core.Bool.{cond}
+use lib.Dec.{ltb}
 use mathlib.Core.List.{List, [], _∷_}
 use lib.ListN.{getD}
 use Rattle.word.specs.declared.Shifted.{Shifted}
@@ -12,6 +14,7 @@ use Rattle.shift.specs.declared.Composed.{Composed}
 use Rattle.shift.specs.declared.Composed.the-variants as C
 use Rattle.shift.specs.declared.Found.{Found}
 use Rattle.shift.specs.declared.Found.the-variants as F
+use Rattle.shift.specs.Shifts.{by, variantAt}
 use Rattle.shift.specs.Answers.{found, composed, applied}
 use Rattle.operand.specs.declared.PushInner.{PushInner}
 use Rattle.operand.specs.declared.PushInner.the-variants as P
@@ -39,19 +42,25 @@ ofComposed t C.Refused = t
 abbrev pub composeAt : Tally → Shift → Shift → Tally
 composeAt t i o = ofComposed t (composed i o)
 
--- f of the shift that was found, if any
-abbrev pub ofFound : {A : Type 0} → Found → (Shift → A → A) → A → A
-ofFound (F.Valid s) f t = f s t
-ofFound F.Refused f t = t
+-- the valid shifts by rising number: 64 of each full-width variant, then 32 of each half-word one
+abbrev pub nthValid : ℕ → Shift
+nthValid k = cond (ltb k 256) (by (variantAt (k / 64)) (k % 64)) (by (variantAt (k / 32 - 4)) (k % 32))
 
-unfoldable pub composeWith : Shift → ℕ → Tally → Tally
-composeWith i n t = ofFound (found n) (λ o t. composeAt t i o) t
+abbrev ofFound : Tally → Found → Tally
+ofFound t (F.Valid s) = shiftIn (counted t 0) s
+ofFound t F.Refused = counted t 1
 
-unfoldable pub composeFrom : ℕ → Tally → Tally
-composeFrom n t = ofFound (found n) (λ i t. over (composeWith i) 512 t) t
+unfoldable pub indexAt : ℕ → Tally → Tally
+indexAt n t = ofFound t (found n)
+
+unfoldable pub indexAll : Tally
+indexAll = over indexAt 1024 none
+
+unfoldable pub composeRow : Shift → Tally → Tally
+composeRow i t = over (λ k t. composeAt t i (nthValid k)) 384 t
 
 unfoldable pub composeAll : Tally
-composeAll = over composeFrom 512 none
+composeAll = over (λ k t. composeRow (nthValid k) t) 384 none
 
 abbrev ofPushed : Tally → Pushed → Tally
 ofPushed t (Q.Is p) = ofPush t p
@@ -60,24 +69,18 @@ ofPushed t Q.Refused = t
 unfoldable pub pushAt : Shift → Shift → Shift → ℕ → Tally → Tally
 pushAt i o s slots t = ofPushed t (pushed i o s slots)
 
--- a spread of third shifts for two shifts of numbers m and n
-abbrev pub thirdNumber : ℕ → ℕ → ℕ → ℕ
-thirdNumber m n k = (37 * m + 101 * n + 53 * k + 11) % 512
+-- one of a spread of third shifts for the pair of the i-th and the o-th
+abbrev pub thirdOf : ℕ → ℕ → ℕ → Shift
+thirdOf i o k = nthValid ((37 * i + 101 * o + 53 * k + 11) % 384)
 
-unfoldable pub pushThird : Shift → Shift → ℕ → Tally → Tally
-pushThird i o n t = ofFound (found n) (λ s t. over (pushAt i o s) 4 t) t
+unfoldable pub pushPair : ℕ → ℕ → Tally → Tally
+pushPair i o t = over (λ k t. over (pushAt (nthValid i) (nthValid o) (thirdOf i o k)) 4 t) 6 t
 
-unfoldable pub pushPair : Shift → ℕ → ℕ → Shift → Tally → Tally
-pushPair i m n o t = over (λ k t. pushThird i o (thirdNumber m n k) t) 6 t
-
-unfoldable pub pushWith : Shift → ℕ → ℕ → Tally → Tally
-pushWith i m n t = ofFound (found n) (pushPair i m n) t
-
-unfoldable pub pushFrom : ℕ → Tally → Tally
-pushFrom m t = ofFound (found m) (λ i t. over (pushWith i m) 512 t) t
+unfoldable pub pushRow : ℕ → Tally → Tally
+pushRow i t = over (pushPair i) 384 t
 
 unfoldable pub pushAll : Tally
-pushAll = over pushFrom 512 none
+pushAll = over pushRow 384 none
 
 abbrev ofShifted : ℕ → Shifted → ℕ
 ofShifted h (Word v) = mixed h v
@@ -86,11 +89,8 @@ ofShifted h Refused = h
 abbrev pub applyAt : ℕ → ℕ → Shift → ℕ
 applyAt h w s = ofShifted h (applied s w)
 
-unfoldable pub applyNumber : ℕ → ℕ → ℕ → ℕ
-applyNumber w n h = ofFound (found n) (λ s h. applyAt h w s) h
-
 unfoldable pub applyWord : ℕ → ℕ → ℕ
-applyWord w h = over (applyNumber w) 512 h
+applyWord w h = over (λ k h. applyAt h w (nthValid k)) 384 h
 
 -- words at which a sign or a half begins and ends
 abbrev pub edges : List ℕ

@@ -1,13 +1,13 @@
 // Runs compose over all pairs of valid shifts, push_inner over a spread of triples at slots 0 to 3, and apply over 300 words, and prints
-// the counts by case and a digest of all answers: the first three lines of stdout are the unchanged Rust's. The last line counts the
-// refusals of invalid shifts, which the Rust does not have.
+// the counts by case and a digest of all answers: the first three lines of stdout are the unchanged Rust's. The last two count answers
+// and refusals of shifts and numbers that the Rust takes differently or not at all.
 ghost use mathlib.Core.Path.{_≡_};
 ghost use Prim.Native.Nat.{_<_};
 ghost use Rattle.word.specs.Answers.{told};
 ghost use Rattle.shift.specs.Answers.{toldNumber, toldComposed};
 ghost use Rattle.operand.specs.Push.{toldPushed};
 ghost use Rattle.replay_shift.specs.Tallies.{over, churned, mixed, more, counted, mixedIn, shiftIn};
-ghost use Rattle.replay_shift.specs.Replay.{ofComposition, ofPush, composeAt, composeWith, composeFrom, composeAll, pushAt, thirdNumber, pushThird, pushPair, pushWith, pushFrom, pushAll, applyAt, applyNumber, applyWord, applyEdges, applyNext, applyAll};
+ghost use Rattle.replay_shift.specs.Replay.{ofComposition, ofPush, nthValid, indexAt, indexAll, composeAt, composeRow, composeAll, pushAt, thirdOf, pushPair, pushRow, pushAll, applyAt, applyWord, applyEdges, applyNext, applyAll};
 ghost use Rattle.replay_shift.specs.Refusals.{refusalOf, noted, notedApply, notedIndex, notedCompose, notedPush, notedShift, notedNumber, notedAll};
 use libc::STDOUT_FILENO;
 use operand::PushInner;
@@ -126,6 +126,51 @@ fn of_push(t: Tally, p: PushInner) -> Tally
     }
 }
 
+// The valid shifts by rising number: 64 of each full-width variant, then 32 of each half-word one.
+fn valid_shift(k: u64) -> Shift
+    requires { ⌜ k < 384 ⌝ }
+    ensures { λ r. ⌜ r ≡ nthValid k ⌝ }
+{
+    if k < 256 {
+        return Shift {
+            variant: ShiftVariant::from_u8((k / 64) as u8),
+            amount: (k % 64) as u8,
+        };
+    }
+    Shift {
+        variant: ShiftVariant::from_u8((k / 32 - 4) as u8),
+        amount: (k % 32) as u8,
+    }
+}
+
+fn index_at(t: Tally, n: u64) -> Tally
+    ensures { λ r. ⌜ r ≡ indexAt n t ⌝ }
+{
+    let f = Shift::from_index(n);
+    match f {
+        Found::Valid(s) => shift_in(count(t, 0), s),
+        Found::Refused => count(t, 1),
+    }
+}
+
+// Numbers to shifts and back, up to twice the numbers that the Rust takes.
+fn index_all() -> Tally
+    ensures { λ r. ⌜ r ≡ indexAll ⌝ }
+{
+    let mut sum = Tally {
+        first: 0,
+        second: 0,
+        third: 0,
+        digest: 0,
+    };
+    let mut n: u64 = 0;
+    while n < 1024 {
+        sum = index_at(sum, n);
+        n += 1;
+    }
+    sum
+}
+
 fn compose_at(t: Tally, inner: Shift, outer: Shift) -> Tally
     ensures { λ r. ⌜ r ≡ composeAt t inner outer ⌝ }
 {
@@ -136,36 +181,16 @@ fn compose_at(t: Tally, inner: Shift, outer: Shift) -> Tally
     }
 }
 
-fn compose_with(t: Tally, inner: Shift, n: u64) -> Tally
-    ensures { λ r. ⌜ r ≡ composeWith inner n t ⌝ }
-{
-    let f = Shift::from_index(n);
-    match f {
-        Found::Valid(outer) => compose_at(t, inner, outer),
-        Found::Refused => t,
-    }
-}
-
-fn compose_all_with(t: Tally, inner: Shift) -> Tally
-    ensures { λ r. ⌜ r ≡ over (composeWith inner) 512 t ⌝ }
+fn compose_row(t: Tally, inner: Shift) -> Tally
+    ensures { λ r. ⌜ r ≡ composeRow inner t ⌝ }
 {
     let mut sum = t;
-    let mut n: u64 = 0;
-    while n < 512 {
-        sum = compose_with(sum, inner, n);
-        n += 1;
+    let mut k: u64 = 0;
+    while k < 384 {
+        sum = compose_at(sum, inner, valid_shift(k));
+        k += 1;
     }
     sum
-}
-
-fn compose_from(t: Tally, n: u64) -> Tally
-    ensures { λ r. ⌜ r ≡ composeFrom n t ⌝ }
-{
-    let f = Shift::from_index(n);
-    match f {
-        Found::Valid(inner) => compose_all_with(t, inner),
-        Found::Refused => t,
-    }
 }
 
 fn compose_all() -> Tally
@@ -177,10 +202,10 @@ fn compose_all() -> Tally
         third: 0,
         digest: 0,
     };
-    let mut n: u64 = 0;
-    while n < 512 {
-        sum = compose_from(sum, n);
-        n += 1;
+    let mut k: u64 = 0;
+    while k < 384 {
+        sum = compose_row(sum, valid_shift(k));
+        k += 1;
     }
     sum
 }
@@ -207,70 +232,40 @@ fn push_slots(t: Tally, inner: Shift, outer: Shift, shift: Shift) -> Tally
     sum
 }
 
-// A spread of third shifts for two shifts of numbers m and n.
-fn third_number(m: u64, n: u64, k: u64) -> u64
-    requires { ⌜ (m < 512) × (n < 512) × (k < 6) ⌝ }
-    ensures { λ r. ⌜ r ≡ thirdNumber m n k ⌝ }
+// One of a spread of third shifts for the pair of the i-th and the o-th.
+fn third(i: u64, o: u64, k: u64) -> Shift
+    requires { ⌜ (i < 384) × (o < 384) × (k < 6) ⌝ }
+    ensures { λ r. ⌜ r ≡ thirdOf i o k ⌝ }
 {
-    (37 * m + 101 * n + 53 * k + 11) % 512
+    valid_shift((37 * i + 101 * o + 53 * k + 11) % 384)
 }
 
-fn push_third(t: Tally, inner: Shift, outer: Shift, n: u64) -> Tally
-    ensures { λ r. ⌜ r ≡ pushThird inner outer n t ⌝ }
+fn push_pair(t: Tally, i: u64, o: u64) -> Tally
+    requires { ⌜ (i < 384) × (o < 384) ⌝ }
+    ensures { λ r. ⌜ r ≡ pushPair i o t ⌝ }
 {
-    let f = Shift::from_index(n);
-    match f {
-        Found::Valid(shift) => push_slots(t, inner, outer, shift),
-        Found::Refused => t,
-    }
-}
-
-fn push_pair(t: Tally, inner: Shift, m: u64, outer: Shift, n: u64) -> Tally
-    requires { ⌜ (m < 512) × (n < 512) ⌝ }
-    ensures { λ r. ⌜ r ≡ pushPair inner m n outer t ⌝ }
-{
+    let inner = valid_shift(i);
+    let outer = valid_shift(o);
     let mut sum = t;
     let mut k: u64 = 0;
     while k < 6 {
-        sum = push_third(sum, inner, outer, third_number(m, n, k));
+        sum = push_slots(sum, inner, outer, third(i, o, k));
         k += 1;
     }
     sum
 }
 
-fn push_with(t: Tally, inner: Shift, m: u64, n: u64) -> Tally
-    requires { ⌜ (m < 512) × (n < 512) ⌝ }
-    ensures { λ r. ⌜ r ≡ pushWith inner m n t ⌝ }
-{
-    let f = Shift::from_index(n);
-    match f {
-        Found::Valid(outer) => push_pair(t, inner, m, outer, n),
-        Found::Refused => t,
-    }
-}
-
-fn push_all_with(t: Tally, inner: Shift, m: u64) -> Tally
-    requires { ⌜ m < 512 ⌝ }
-    ensures { λ r. ⌜ r ≡ over (pushWith inner m) 512 t ⌝ }
+fn push_row(t: Tally, i: u64) -> Tally
+    requires { ⌜ i < 384 ⌝ }
+    ensures { λ r. ⌜ r ≡ pushRow i t ⌝ }
 {
     let mut sum = t;
-    let mut n: u64 = 0;
-    while n < 512 {
-        sum = push_with(sum, inner, m, n);
-        n += 1;
+    let mut o: u64 = 0;
+    while o < 384 {
+        sum = push_pair(sum, i, o);
+        o += 1;
     }
     sum
-}
-
-fn push_from(t: Tally, m: u64) -> Tally
-    requires { ⌜ m < 512 ⌝ }
-    ensures { λ r. ⌜ r ≡ pushFrom m t ⌝ }
-{
-    let f = Shift::from_index(m);
-    match f {
-        Found::Valid(inner) => push_all_with(t, inner, m),
-        Found::Refused => t,
-    }
 }
 
 fn push_all() -> Tally
@@ -282,10 +277,10 @@ fn push_all() -> Tally
         third: 0,
         digest: 0,
     };
-    let mut m: u64 = 0;
-    while m < 512 {
-        sum = push_from(sum, m);
-        m += 1;
+    let mut i: u64 = 0;
+    while i < 384 {
+        sum = push_row(sum, i);
+        i += 1;
     }
     sum
 }
@@ -300,24 +295,14 @@ fn apply_at(h: u64, w: u64, s: Shift) -> u64
     }
 }
 
-fn apply_number(h: u64, w: u64, n: u64) -> u64
-    ensures { λ r. ⌜ r ≡ applyNumber w n h ⌝ }
-{
-    let f = Shift::from_index(n);
-    match f {
-        Found::Valid(s) => apply_at(h, w, s),
-        Found::Refused => h,
-    }
-}
-
 fn apply_word(h: u64, w: u64) -> u64
     ensures { λ r. ⌜ r ≡ applyWord w h ⌝ }
 {
     let mut sum = h;
-    let mut n: u64 = 0;
-    while n < 512 {
-        sum = apply_number(sum, w, n);
-        n += 1;
+    let mut k: u64 = 0;
+    while k < 384 {
+        sum = apply_at(sum, w, valid_shift(k));
+        k += 1;
     }
     sum
 }
@@ -497,6 +482,10 @@ fn main() {
     print(b" over ", p.third);
     print(b" digest ", p.digest);
     print(b"\napply digest ", apply_all());
+    let x = index_all();
+    print(b"\nindex valid ", x.first);
+    print(b" refused ", x.second);
+    print(b" digest ", x.digest);
     let n = note_all();
     print(b"\nspelled answered ", n.first);
     print(b" refused ", n.second);

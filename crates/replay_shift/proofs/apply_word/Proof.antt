@@ -1,31 +1,34 @@
 -- Each turn of the loop is one step of the fold. Assumes nothing.
 use Prim.Native.Nat.{_-_}
 use borrow.Author.Needs.{needs}
-use Rattle.replay_shift.specs.Replay.{applyNumber, applyWord}
+use Rattle.replay_shift.specs.Replay.{nthValid, applyAt, applyWord}
 use Rattle.replay_shift.proofs.Over.{Upto, begun, again, ended}
 use Rattle.replay_shift.proofs.apply_word.Statement.{statement}
 use Rattle.replay_shift.proofs.apply_word.Tie as tie
 
 abbrev Inv-loop : tie.InvT-loop
-Inv-loop h w sum₀ n₀ sum n = Upto (applyNumber w) 512 sum₀ n sum
+Inv-loop h w sum₀ k₀ sum k = Upto (λ k h. applyAt h w (nthValid k)) 384 sum₀ k sum
 
 abbrev μ-loop : tie.MeasureT-loop
-μ-loop h w sum₀ n₀ sum n = 512 - n
+μ-loop h w sum₀ k₀ sum k = 384 - k
 
 loop-holds : tie.Need-loop-holds Inv-loop μ-loop
 loop-holds c = begun
 
-apply-number-requires : tie.Need-apply-number-requires Inv-loop μ-loop
-apply-number-requires c κs = search needs
+valid-shift-requires : tie.Need-valid-shift-requires Inv-loop μ-loop
+valid-shift-requires c κs = search needs
 
-add-n : tie.Need-add-n Inv-loop μ-loop
-add-n c = search needs
+apply-at-requires : tie.Need-apply-at-requires Inv-loop μ-loop
+apply-at-requires c κs = search needs
+
+add-k : tie.Need-add-k Inv-loop μ-loop
+add-k c = search needs
 
 loop-less : tie.Need-loop-less Inv-loop μ-loop
 loop-less c = search needs
 
 loop-again : tie.Need-loop-again Inv-loop μ-loop
-loop-again c = again (c .before .before .loop .inv) (c .before .loop-test .taken) (c .apply-number .ensures)
+loop-again c = again (c .before .before .before .loop .inv) (c .before .before .loop-test .taken) (rw (c .before .valid-shift .ensures) at (c .apply-at .ensures))
 
 returns : tie.Need-returns Inv-loop μ-loop
 unfolding applyWord
@@ -34,4 +37,13 @@ returns c = ended (c .before .loop .inv) (c .loop-test .left)
 pub apply-word-spec : {M : Type 1} → statement M
 apply-word-spec =
     tie.close
-    (tie.spec Inv-loop μ-loop loop-holds apply-number-requires add-n loop-less loop-again returns)
+    (tie.spec
+    Inv-loop
+    μ-loop
+    loop-holds
+    valid-shift-requires
+    apply-at-requires
+    add-k
+    loop-less
+    loop-again
+    returns)
