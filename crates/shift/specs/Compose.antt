@@ -6,6 +6,7 @@
 --   firstOf rs i o   what the first rule that fits i and o makes of them, or Neither
 --   chainOf i o      the variant that i and o go on as, if they chain
 --   makesOf i o      what the tests of 01, in their order, make of two shifts that are no identities
+--   pastWidth v e    what a chain comes to whose sum is the width and e more
 --   chainedOf v d    what a chain comes to that goes on as v, d being the sum of the two amounts
 --   composeValid     the composition of two valid shifts
 --   Right i o c      what the answer c claims of i and then o: "Single and Zero .. have the meaning of the two shifts. Pair claims nothing"
@@ -23,26 +24,26 @@ use Rattle.shift.specs.declared.Makes.{Makes}
 use Rattle.shift.specs.declared.Makes.the-variants.{Inner, Outer, Chain, Neither}
 use Rattle.shift.specs.declared.Composition.{Composition}
 use Rattle.shift.specs.declared.Composition.the-variants.{Single, Zero, Pair}
-use Rattle.shift.specs.Shifts.{by, widthOf, cyclicOf, variantNumber, Valid, identity, applyOf}
+use Rattle.shift.specs.Shifts.{by, widthOf, variantNumber, Valid, identity, applyOf}
 
--- 0 becomes sll 0
+-- "where 0 becomes sll 0"
 abbrev pub turned : ShiftVariant → ℕ → Composition
 turned v d = cond (eqb d 0) (Single identity) (Single (by v d))
 
-abbrev pub runOut : ShiftVariant → Composition
-runOut Sll = Zero
-runOut Slr = Zero
-runOut Sar = Single (by Sar 63)
-runOut Rotr = Zero
-runOut Sll32 = Zero
-runOut Srl32 = Zero
-runOut Sra32 = Single (by Sra32 31)
-runOut Rotr32 = Zero
-
 -- "A chain's sum at or above the width is Zero for left and logical right shifts, width - 1 for arithmetic ones, and is reduced by the
--- width for rotations, where 0 becomes sll 0"
+-- width for rotations, where 0 becomes sll 0": e is the sum less the width
+abbrev pub pastWidth : ShiftVariant → ℕ → Composition
+pastWidth Sll e = Zero
+pastWidth Slr e = Zero
+pastWidth Sar e = Single (by Sar 63)
+pastWidth Rotr e = turned Rotr e
+pastWidth Sll32 e = Zero
+pastWidth Srl32 e = Zero
+pastWidth Sra32 e = Single (by Sra32 31)
+pastWidth Rotr32 e = turned Rotr32 e
+
 abbrev pub chainedOf : ShiftVariant → ℕ → Composition
-chainedOf v d = cond (ltb d (widthOf v)) (Single (by v d)) (cond (cyclicOf v) (turned v (d - widthOf v)) (runOut v))
+chainedOf v d = cond (ltb d (widthOf v)) (Single (by v d)) (pastWidth v (d - widthOf v))
 
 pub record Rule : Type 0 where
   pub first : ShiftVariant

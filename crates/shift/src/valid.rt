@@ -4,7 +4,7 @@ ghost use mathlib.Core.Bool.{cond};
 ghost use Prim.Native.Nat.{_+_, _*_, _<_, _≤_};
 ghost use lib.Dec.{leb};
 ghost use Rattle.shift.specs.Shifts.{variantNumber, widthOf, Valid, shifted, applyOf, numberOf};
-ghost use Rattle.shift.specs.Compose.{turned, runOut, chainedOf, firstOf, degenerates, chains, chainOf, makesOf, composeValid};
+ghost use Rattle.shift.specs.Compose.{turned, pastWidth, chainedOf, firstOf, degenerates, chains, chainOf, makesOf, composeValid};
 ghost use Rattle.shift.specs.declared.Makes.{Makes};
 ghost use Rattle.shift.specs.declared.Makes.the-variants.{Neither};
 use crate::Composition;
@@ -59,25 +59,29 @@ fn turn(v: ShiftVariant, d: u8) -> Composition
     })
 }
 
-// Carried past its end, a word is cleared, or, arithmetically, a run of its sign.
-fn run_out(v: ShiftVariant) -> Composition
-    ensures { λ r. ⌜ r ≡ runOut v ⌝ }
+const SAR_63: Shift = Shift {
+    variant: ShiftVariant::Sar,
+    amount: 63,
+};
+
+const SRA32_31: Shift = Shift {
+    variant: ShiftVariant::Sra32,
+    amount: 31,
+};
+
+// Carried `over` past its end a word is cleared, or, arithmetically, a run of its sign; a rotation loses nothing.
+fn past_width(v: ShiftVariant, over: u8) -> Composition
+    ensures { λ r. ⌜ r ≡ pastWidth v over ⌝ }
 {
     match v {
         ShiftVariant::Sll => Composition::Zero,
         ShiftVariant::Slr => Composition::Zero,
-        ShiftVariant::Sar => Composition::Single(Shift {
-            variant: ShiftVariant::Sar,
-            amount: 63,
-        }),
-        ShiftVariant::Rotr => Composition::Zero,
+        ShiftVariant::Sar => Composition::Single(SAR_63),
+        ShiftVariant::Rotr => turn(v, over),
         ShiftVariant::Sll32 => Composition::Zero,
         ShiftVariant::Srl32 => Composition::Zero,
-        ShiftVariant::Sra32 => Composition::Single(Shift {
-            variant: ShiftVariant::Sra32,
-            amount: 31,
-        }),
-        ShiftVariant::Rotr32 => Composition::Zero,
+        ShiftVariant::Sra32 => Composition::Single(SRA32_31),
+        ShiftVariant::Rotr32 => turn(v, over),
     }
 }
 
@@ -87,17 +91,13 @@ fn chained_composition(variant: ShiftVariant, distance: u8) -> Composition
 {
     let row = variant.row();
     let width = row.width;
-    let cyclic = row.cyclic;
     if distance < width {
         return Composition::Single(Shift {
             variant,
             amount: distance,
         });
     }
-    if cyclic {
-        return turn(variant, distance - width);
-    }
-    run_out(variant)
+    past_width(variant, distance - width)
 }
 
 // Rust matches on a tuple of variants; here the two are one number, inner first.
