@@ -1,3 +1,4 @@
 pub mod Push
 pub mod Terms
 pub mod Examples
+pub mod Numbers

@@ -7,8 +7,10 @@ ghost use Rattle.word.specs.Answers.{checked};
 ghost use Rattle.shift.specs.Shifts.{valid, identity};
 ghost use Rattle.operand.specs.Push.{pushValid, pushed, toldPushed, values};
 ghost use Rattle.operand.specs.Terms.{soleOf, toldSole, toldOne};
+ghost use Rattle.operand.specs.Numbers.{operandAt, within};
 use shift::Shift;
 
+pub mod term;
 pub mod valid;
 
 // The numbers of a wire, a definition and a constraint: one is not taken for another.
@@ -77,6 +79,17 @@ impl ShiftedWire {
 }
 
 impl WireOperand {
+    // The operand that stands in a list as the number `h`: every number stands for one.
+    pub fn from_number(h: u64) -> WireOperand
+        ensures { λ r. ⌜ r ≡ operandAt h ⌝ }
+    {
+        WireOperand {
+            start: (h / 4294967296 % 2147483648) as u32,
+            len: (h % 4294967296) as u32,
+            new: 9223372036854775808 <= h,
+        }
+    }
+
     pub fn start(self) -> usize
         ensures { λ r. ⌜ r ≡ self .start ⌝ }
     {
@@ -93,6 +106,17 @@ impl WireOperand {
         ensures { λ r. ⌜ r ≡ eqb (self .len) 0 ⌝ }
     {
         self.len == 0
+    }
+
+    // Whether it ends within the store that it stands in.
+    pub fn is_within(self, old: &[u64], new: &[u64]) -> bool
+        ensures { λ r. ⌜ r ≡ within (now (old .entry)) (now (new .entry)) self ⌝ }
+    {
+        let end = self.start as usize + self.len as usize;
+        if self.new {
+            return end <= new.len();
+        }
+        end <= old.len()
     }
 }
 

@@ -1,8 +1,12 @@
-// push_inner of shifts that are known to be valid. Follows frontend/src/lower/operand.rs.
+// push_inner of shifts that are known to be valid, and operands that are known to lie within their store. Follows
+// frontend/src/lower/operand.rs.
 ghost use mathlib.Core.Path.{_≡_};
+ghost use Prim.Native.Nat.{_<_};
 ghost use Rattle.shift.specs.Shifts.{Valid};
 ghost use Rattle.operand.specs.Push.{loneOf, foldOuter, pushValid, keepBoth};
+ghost use Rattle.operand.specs.Numbers.{Within, termsAt, operandNumber};
 use crate::PushInner;
+use crate::WireOperand;
 use shift::Composition;
 use shift::Shift;
 
@@ -53,4 +57,29 @@ pub fn push_inner(inner: Shift, outer: Shift, shift: Shift, slots: usize) -> Pus
         Composition::Zero => PushInner::Zero,
         Composition::Pair => keep_both(inner, outer, shift, slots),
     }
+}
+
+// The terms of an operand, as a part of whichever store holds them.
+pub fn as_slice<'a>(operand: WireOperand, old: &'a [u64], new: &'a [u64]) -> &'a [u64]
+    requires { ⌜ Within (now old) (now new) operand ⌝ }
+    ensures { λ r. ⌜ now r ≡ termsAt (now (old .entry)) (now (new .entry)) operand ⌝ }
+{
+    let start = operand.start as usize;
+    let end = start + operand.len as usize;
+    if operand.new {
+        return &new[start..end];
+    }
+    &old[start..end]
+}
+
+// The number that stands for an operand in a list.
+pub fn number(operand: WireOperand) -> u64
+    requires { ⌜ operand .start < 2147483648 ⌝ }
+    ensures { λ r. ⌜ r ≡ operandNumber operand ⌝ }
+{
+    let place = operand.len as u64 + 4294967296 * operand.start as u64;
+    if operand.new {
+        return place + 9223372036854775808;
+    }
+    place
 }
