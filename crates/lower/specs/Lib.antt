@@ -1,0 +1,6 @@
+pub mod Lists
+pub mod Model
+pub mod Values
+pub mod Accepted
+pub mod Stores
+pub mod Faults

@@ -1,0 +1,96 @@
+//! Systems that 01 refuses, that expand far, and that plain expansion never ends on.
+
+use super::shapes::{Draft, Shape, draft, palette};
+use crate::{
+    random::Random,
+    system::{Definition, System, Term},
+};
+
+/// TWICE, EMPTY, DOUBLE and CIRCLE, one or several, at random places of a small system.
+pub fn faulty(random: &mut Random) -> System {
+    let shape = Shape::small(random);
+    let mut system = draft(random, &shape).shuffled(random);
+    for _ in 0..random.between(1, 2) {
+        match random.below(5) {
+            0 => define_again(random, &mut system),
+            1 => empty_one(random, &mut system),
+            2 => double_in_definition(random, &mut system),
+            3 => double_in_other(random, &mut system),
+            _ => close_circle(random, &mut system),
+        }
+    }
+    system
+}
+
+fn define_again(random: &mut Random, system: &mut System) {
+    let dst = random.pick(&system.linears).dst;
+    let rhs = vec![Term::plain(random.below(system.wires) as u16)];
+    system.linears.push(Definition { dst, rhs });
+}
+
+fn empty_one(random: &mut Random, system: &mut System) {
+    let at = random.below(system.linears.len());
+    system.linears[at].rhs.clear();
+}
+
+fn double_in_definition(random: &mut Random, system: &mut System) {
+    let at = random.below(system.linears.len());
+    if let Some(term) = system.linears[at].rhs.last_mut() {
+        term.outer = 64 * random.below(8) as u16 + 1;
+    }
+}
+
+fn double_in_other(random: &mut Random, system: &mut System) {
+    let wire = random.pick(&system.linears).dst;
+    let outer = 64 * random.below(8) as u16 + 1;
+    let operands = system.others.iter_mut().flatten().flatten();
+    let mut operands: Vec<_> = operands.collect();
+    if !operands.is_empty() {
+        let at = random.below(operands.len());
+        operands[at].push(Term::new(wire, 0, outer));
+    }
+}
+
+/// A definition names one that reaches it, or itself.
+fn close_circle(random: &mut Random, system: &mut System) {
+    let from = random.below(system.linears.len());
+    let mut wire = system.linears[from].dst;
+    for _ in 0..random.below(3) {
+        let naming = system.linears.iter().find(|definition| definition.rhs.iter().any(|term| term.wire == wire));
+        wire = naming.map_or(wire, |definition| definition.dst);
+    }
+    system.linears[from].rhs.push(Term::plain(wire));
+}
+
+/// Levels of definitions that each name the next one several times: operands that multiply.
+pub fn tower(random: &mut Random) -> System {
+    let shifts = palette(random, 1, 2);
+    let mut draft = Draft::new(2);
+    let mut below = 0;
+    for _ in 0..random.between(2, 9) {
+        let copies = random.between(1, 5);
+        let term = |random: &mut Random| Term::single(below, if random.percent(15) { *random.pick(&shifts) } else { 0 });
+        let rhs = (0..copies).map(|_| term(random)).collect();
+        below = draft.define(rhs);
+    }
+    for _ in 0..random.between(1, 3) {
+        draft.zero(vec![Term::plain(below); random.between(1, 3)]);
+    }
+    draft.shuffled(random)
+}
+
+/// Accepted systems whose plain expansion looks at more terms than anyone waits for, though next to nothing is written: the last
+/// definition shifts out all that is left.
+pub fn endless(random: &mut Random) -> System {
+    let variant = *random.pick(&[0u16, 1, 4, 5]);
+    let far = 64 * variant + if variant < 4 { 40 } else { 20 };
+    let copies = random.between(2, 1000);
+    let levels = random.between(1, 6);
+    let mut draft = Draft::new(1);
+    let mut below = draft.define(vec![Term::single(0, far)]);
+    for _ in 0..levels {
+        below = draft.define(vec![Term::plain(below); copies]);
+    }
+    draft.zero(vec![Term::single(below, far)]);
+    draft.shuffled(random)
+}

@@ -1,0 +1,17 @@
+//! Differential runs of the gate-fusion pass: the unchanged Rust of binius64 beside an implementation of 01's rules written apart.
+//!
+//! 01 is the paper of scope and rules that this project is built from.
+
+pub mod checks;
+pub mod compare;
+pub mod damage;
+pub mod evaluate;
+pub mod generate;
+pub mod house;
+pub mod oracle;
+pub mod outcome;
+pub mod random;
+pub mod rules;
+pub mod second_reader;
+pub mod shifts;
+pub mod system;

@@ -1,0 +1,144 @@
+//! The harness's commands: README.md says what each is for.
+
+use std::{
+    io::{Read, Write},
+    process::ExitCode,
+};
+
+use harness::{
+    compare, damage, generate,
+    house::{self, FULL},
+    oracle,
+    outcome::{Outcome, dump, report},
+    rules, shifts,
+    system::{MAX_WRITTEN, System},
+};
+
+/// `fusereport`'s limits.
+const REPORT_BYTES: usize = 65_536;
+const REPORT_ROOM: usize = 4096;
+
+const USAGE: &str = "\
+usage: harness COMMAND, see README.md
+  fuse SLOTS [ROOM] < FILE      the Rust's answer, as canonical text
+  rules SLOTS [ROOM] < FILE     the rules' answer
+  report < FILE                 the line that fusereport prints, by the Rust
+  shifts                        counts and digests of compose, push_inner and apply
+  compose | push INNER | apply HEXWORD
+  make KIND SEED > FILE         a generated system as a house file
+  compare KIND FIRST COUNT | compare all FIRST COUNT LARGECOUNT
+  compare-shifts
+  damage FIRST COUNT            damaged files through two readers
+";
+
+fn main() -> ExitCode {
+    // The Rust's panics are answers here; they are shown where they matter.
+    std::panic::set_hook(Box::new(|_| {}));
+    let arguments: Vec<String> = std::env::args().skip(1).collect();
+    let arguments: Vec<&str> = arguments.iter().map(String::as_str).collect();
+    match run(&arguments) {
+        Some(code) => code,
+        None => {
+            eprint!("{USAGE}");
+            ExitCode::from(2)
+        }
+    }
+}
+
+/// Nothing if the command line is none of the commands'.
+fn run(arguments: &[&str]) -> Option<ExitCode> {
+    match arguments {
+        ["fuse", slots, room @ ..] => print!("{}", dump(&fuse_input(oracle::fuse, slots, room)?)),
+        ["rules", slots, room @ ..] => print!("{}", dump(&fuse_input(rules::fuse, slots, room)?)),
+        ["report"] => println!("{}", report(&report_input())),
+        ["shifts"] => print!("{}", shifts::digest_lines()),
+        ["compose"] => shifts::print_compose(),
+        ["push", inner] => shifts::print_push(inner.parse().ok().filter(|&inner| house::is_shift(inner))?),
+        ["apply", word] => shifts::print_apply(u64::from_str_radix(word, 16).ok()?),
+        ["make", kind, seed] => make(kind, seed)?,
+        ["compare", "all", first, count, large] => {
+            let totals = compare::compare_all(first.parse().ok()?, count.parse().ok()?, large.parse().ok()?);
+            return Some(told(&totals));
+        }
+        ["compare", kind, first, count] => {
+            let kind = generate::kind_by_name(kind)?;
+            return Some(told(&compare::compare_kind(kind, first.parse().ok()?, count.parse().ok()?)));
+        }
+        ["damage", first, count] => return Some(damage_files(first.parse().ok()?, count.parse().ok()?)),
+        ["compare-shifts"] => return Some(compare_shifts()),
+        _ => return None,
+    }
+    Some(ExitCode::SUCCESS)
+}
+
+fn input() -> Vec<u8> {
+    let mut bytes = Vec::new();
+    std::io::stdin().read_to_end(&mut bytes).expect("standard input can be read");
+    bytes
+}
+
+type Fuse = fn(&System, usize, usize) -> Outcome;
+
+fn fuse_input(fuse: Fuse, slots: &str, room: &[&str]) -> Option<Outcome> {
+    let slots = slots.parse().ok()?;
+    let room = match room {
+        [] => MAX_WRITTEN,
+        [room] => room.parse().ok()?,
+        _ => return None,
+    };
+    Some(match house::read(&input()) {
+        Ok(system) => fuse(&system, slots, room),
+        Err(fault) => Outcome::Unread(fault),
+    })
+}
+
+fn report_input() -> Outcome {
+    let bytes = input();
+    if bytes.len() > REPORT_BYTES {
+        return Outcome::Refused(FULL);
+    }
+    match house::read(&bytes) {
+        Ok(system) => oracle::fuse(&system, 2, REPORT_ROOM),
+        Err(fault) => Outcome::Unread(fault),
+    }
+}
+
+fn make(kind: &str, seed: &str) -> Option<()> {
+    let system = generate::system(generate::kind_by_name(kind)?, seed.parse().ok()?);
+    let bytes = house::write(&system).ok()?;
+    std::io::stdout().write_all(&bytes).expect("standard output can be written");
+    Some(())
+}
+
+fn told(totals: &compare::Totals) -> ExitCode {
+    println!("all       {totals}");
+    if totals.differences == 0 {
+        ExitCode::SUCCESS
+    } else {
+        ExitCode::FAILURE
+    }
+}
+
+fn compare_shifts() -> ExitCode {
+    let mut differences = 0;
+    for (name, compare) in [
+        ("compose", shifts::compare_compose as fn() -> shifts::Tried),
+        ("push_inner", shifts::compare_push),
+        ("apply", shifts::compare_apply),
+    ] {
+        let start = std::time::Instant::now();
+        let tried = compare();
+        let seconds = start.elapsed().as_secs_f64();
+        println!("{name} calls {} differences {} seconds {seconds:.1}", tried.calls, tried.differences);
+        differences += tried.differences;
+    }
+    if differences == 0 { ExitCode::SUCCESS } else { ExitCode::FAILURE }
+}
+
+fn damage_files(first: u64, count: u64) -> ExitCode {
+    let start = std::time::Instant::now();
+    let read = damage::run(first, count);
+    let seconds = start.elapsed().as_secs_f64();
+    println!("{read:?} seconds {seconds:.1}");
+    if read.differences == 0 { ExitCode::SUCCESS } else { ExitCode::FAILURE }
+}
