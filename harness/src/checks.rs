@@ -1,9 +1,7 @@
 //! The faults that fusing looks for in memory, from 01: each over the whole system before the next.
 
 use crate::{
-    house::{
-        CIRCLE, DOUBLE, EMPTY, FULL, Refusal, SHAPE, SHIFT, SLOTS, TWICE, WIRE, is_full, is_shift,
-    },
+    house::{CIRCLE, DOUBLE, EMPTY, FULL, Refusal, SHAPE, SHIFT, SLOTS, TWICE, WIRE, is_full, is_shift},
     system::{OPERANDS, Operand, System, Term},
 };
 
@@ -65,11 +63,7 @@ fn check_operand(system: &System, operand: &Operand) -> Result<(), Refusal> {
 }
 
 fn check_wire(system: &System, wire: u16) -> Result<(), Refusal> {
-    if usize::from(wire) < system.wires {
-        Ok(())
-    } else {
-        Err(WIRE)
-    }
+    if usize::from(wire) < system.wires { Ok(()) } else { Err(WIRE) }
 }
 
 fn defines_twice(system: &System) -> bool {
@@ -84,8 +78,7 @@ fn is_doubled(system: &System) -> bool {
     let in_definitions = system.linears.iter().flat_map(|definition| &definition.rhs);
     let has_outer = |term: &&Term| term.outer % 64 != 0;
     let defined = |term: &&Term| definition_of[usize::from(term.wire)].is_some();
-    in_definitions.clone().any(|term| has_outer(&term))
-        || in_others.filter(has_outer).any(|term| defined(&term))
+    in_definitions.clone().any(|term| has_outer(&term)) || in_others.filter(has_outer).any(|term| defined(&term))
 }
 
 /// Whether some definition is never free of definitions that wait for others: taking away those that name no definition, again and again,

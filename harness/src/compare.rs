@@ -126,7 +126,12 @@ pub fn faults_of(system: &System, totals: &mut Totals) -> Vec<String> {
 /// An endless run of the Rust has no answer to compare; the rules' answer is then checked by its values alone.
 fn fault_of_run(system: &System, slots: usize, by_rules: &Outcome, by_rust: &Outcome) -> Option<String> {
     if by_rules != by_rust && *by_rust != Outcome::Endless {
-        return Some(format!("slots {slots}\n{}rules:\n{}Rust:\n{}", dump_lists(system), dump(by_rules), dump(by_rust)));
+        return Some(format!(
+            "slots {slots}\n{}rules:\n{}Rust:\n{}",
+            dump_lists(system),
+            dump(by_rules),
+            dump(by_rust)
+        ));
     }
     match by_rules {
         Outcome::Fused(fused) => fault_of_values(system, fused),
@@ -202,7 +207,6 @@ fn expected_values(system: &System, fused: &Fused, words: &[u64]) -> Vec<u64> {
     expected.extend(fused.system.linears.iter().map(|definition| words[usize::from(definition.dst)]));
     expected
 }
-
 
 /// Compares all kinds: `count` systems of each small kind, and a part of that of each large one.
 pub fn compare_all(first: u64, count: u64, large_count: u64) -> Totals {

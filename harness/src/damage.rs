@@ -5,13 +5,15 @@ use crate::{
     house::{self, CUT, FULL, Fault, Refusal, SHAPE, SHIFT, TAG, WIRE},
     random::Random,
     second_reader,
-    system::{Definition, MAX_DEFINITIONS, MAX_OTHERS, MAX_TERMS, System, Term, ZERO},
+    system::{AND, BMUL, Definition, IMUL, MAX_DEFINITIONS, MAX_OTHERS, MAX_TERMS, System, Term, ZERO},
 };
 
 pub struct Damaged {
     pub what: String,
     pub bytes: Vec<u8>,
     pub expected: Fault,
+    /// Whether it has this one fault and no other.
+    pub is_plain: bool,
 }
 
 /// A number in a good file: where it stands, in which field, and what it is.
@@ -112,7 +114,8 @@ fn with(bytes: &[u8], change: impl FnOnce(&mut Vec<u8>)) -> Vec<u8> {
 
 fn push(out: &mut Vec<Damaged>, what: String, bytes: Vec<u8>, refusal: Refusal, offset: usize) {
     let expected = Fault { refusal, offset };
-    out.push(Damaged { what, bytes, expected });
+    let is_plain = !what.contains(", ");
+    out.push(Damaged { what, bytes, expected, is_plain });
 }
 
 /// Truncations at every byte of the field: the first cuts the file off before it.
@@ -255,6 +258,19 @@ fn over(what: &str, system: &System, out: &mut Vec<Damaged>) {
     push(out, format!("{what} over"), bytes, FULL, last.start);
 }
 
+/// A good file by hand: a field of every kind, operands of no, one and two terms, identities and pairs.
+pub fn least_file() -> Vec<u8> {
+    let mut system = System::new(4);
+    let operands = |terms: &[&[Term]]| terms.iter().map(|terms| terms.to_vec()).collect();
+    let [x, pair, odd, y] = [Term::plain(0), Term::new(1, 65, 3), Term::new(1, 192, 64), Term::single(3, 287)];
+    system.others[AND].push(operands(&[&[y], &[], &[x, pair]]));
+    system.others[IMUL].push(operands(&[&[x], &[], &[], &[odd]]));
+    system.others[BMUL].push(operands(&[&[], &[], &[pair], &[], &[], &[y]]));
+    system.others[ZERO].push(operands(&[&[odd, y]]));
+    system.linears.push(Definition { dst: 3, rhs: vec![x, Term::single(2, 511 - 32)] });
+    house::write(&system).expect("no field is too wide")
+}
+
 /// A good file with fields of all kinds, small, its fields in any order.
 pub fn good_file(seed: u64) -> Vec<u8> {
     let mut random = Random::new(seed);
@@ -315,7 +331,11 @@ impl Read {
         }
         if !agree || !as_expected {
             self.differences += 1;
-            println!("difference: {what}: expected {expected:?}, first reader {:?}, second {:?}", first.err(), second.err());
+            println!(
+                "difference: {what}: expected {expected:?}, first reader {:?}, second {:?}",
+                first.err(),
+                second.err()
+            );
         }
     }
 }
@@ -327,17 +347,18 @@ pub fn run(first: u64, count: u64) -> Read {
         read.known += 1;
         read.note(&damaged.bytes, Some(damaged.expected), &damaged.what);
     }
-    for seed in first..first + count {
-        let good = good_file(seed);
-        read.note(&good, None, "a good file");
+    let least = ("least file".to_string(), least_file());
+    let drawn = (first..first + count).map(|seed| (format!("seed {seed}"), good_file(seed)));
+    for (seed, (name, good)) in std::iter::once(least).chain(drawn).enumerate() {
+        read.note(&good, None, &name);
         for damaged in damaged(&good) {
             read.known += 1;
-            read.note(&damaged.bytes, Some(damaged.expected), &format!("seed {seed}: {}", damaged.what));
+            read.note(&damaged.bytes, Some(damaged.expected), &format!("{name}: {}", damaged.what));
         }
-        let mut random = Random::new(seed);
+        let mut random = Random::new(first + seed as u64);
         for _ in 0..200 {
             read.mutated += 1;
-            read.note(&mutated(&good, &mut random), None, &format!("seed {seed}: mutated"));
+            read.note(&mutated(&good, &mut random), None, &format!("{name}: mutated"));
         }
     }
     read

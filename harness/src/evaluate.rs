@@ -23,9 +23,7 @@ fn by_halves(word: u64, act: impl Fn(u32) -> u32) -> u64 {
 
 /// The xor of the terms' shifted words.
 pub fn value(operand: &[Term], words: &[u64]) -> u64 {
-    operand.iter().fold(0, |sum, term| {
-        sum ^ shifted(term.outer, shifted(term.inner, words[usize::from(term.wire)]))
-    })
+    operand.iter().fold(0, |sum, term| sum ^ shifted(term.outer, shifted(term.inner, words[usize::from(term.wire)])))
 }
 
 /// The value of every operand, in the writer's order.
@@ -76,9 +74,8 @@ pub fn field_product(a: u128, b: u128) -> u128 {
 /// Gives every wire of an uncommitted definition its value again. `committed` is by wire; what stands at the other wires decides.
 pub fn fill_back(system: &System, committed: &[bool], words: &mut [u64]) {
     let definition_of = system.definition_of();
-    let mut filled: Vec<bool> = (0..system.wires)
-        .map(|wire| committed[wire] || definition_of[wire].is_none())
-        .collect();
+    let mut filled: Vec<bool> =
+        (0..system.wires).map(|wire| committed[wire] || definition_of[wire].is_none()).collect();
     for definition in &system.linears {
         fill_wire(system, &definition_of, &mut filled, words, definition.dst);
     }

@@ -1,8 +1,7 @@
 //! The house file: a strict reader and a writer, both from 01.
 
 use crate::system::{
-    Constraint, Definition, KINDS, MAX_DEFINITIONS, MAX_OTHERS, MAX_TERMS, MAX_WIRES, OPERANDS,
-    Operand, System, Term,
+    Constraint, Definition, KINDS, MAX_DEFINITIONS, MAX_OTHERS, MAX_TERMS, MAX_WIRES, OPERANDS, Operand, System, Term,
 };
 
 /// A number of 01's table.
@@ -68,11 +67,7 @@ fn field_at(bytes: &[u8], offset: usize) -> Result<Field<'_>, Refusal> {
     let [tag, low, high, rest @ ..] = &bytes[offset..] else {
         return Err(CUT);
     };
-    let expected = if offset == 0 {
-        *tag == TAG_WIRES
-    } else {
-        (TAG_AND..=TAG_END).contains(tag)
-    };
+    let expected = if offset == 0 { *tag == TAG_WIRES } else { (TAG_AND..=TAG_END).contains(tag) };
     if !expected {
         return Err(TAG);
     }
@@ -83,25 +78,16 @@ fn field_at(bytes: &[u8], offset: usize) -> Result<Field<'_>, Refusal> {
 
 fn read_end(bytes: &[u8], field: Field<'_>, offset: usize, after: usize) -> Result<(), Fault> {
     if !field.payload.is_empty() {
-        return Err(Fault {
-            refusal: SHAPE,
-            offset,
-        });
+        return Err(Fault { refusal: SHAPE, offset });
     }
     if after < bytes.len() {
-        return Err(Fault {
-            refusal: SHAPE,
-            offset: after,
-        });
+        return Err(Fault { refusal: SHAPE, offset: after });
     }
     Ok(())
 }
 
 fn read_field(system: &mut System, field: Field<'_>) -> Result<(), Refusal> {
-    let mut parts = Parts {
-        left: field.payload,
-        wires: system.wires,
-    };
+    let mut parts = Parts { left: field.payload, wires: system.wires };
     match field.tag {
         TAG_WIRES => system.wires = usize::from(parts.number()?),
         TAG_LINEAR => {
@@ -149,11 +135,7 @@ impl Parts<'_> {
 
     fn wire(&mut self) -> Result<u16, Refusal> {
         let wire = self.number()?;
-        if usize::from(wire) < self.wires {
-            Ok(wire)
-        } else {
-            Err(WIRE)
-        }
+        if usize::from(wire) < self.wires { Ok(wire) } else { Err(WIRE) }
     }
 
     fn shift(&mut self) -> Result<u16, Refusal> {
@@ -162,11 +144,7 @@ impl Parts<'_> {
     }
 
     fn term(&mut self) -> Result<Term, Refusal> {
-        Ok(Term {
-            wire: self.wire()?,
-            inner: self.shift()?,
-            outer: self.shift()?,
-        })
+        Ok(Term { wire: self.wire()?, inner: self.shift()?, outer: self.shift()? })
     }
 
     /// A count that cannot fit is a fault of the shape, before its first term is looked at.
@@ -183,10 +161,7 @@ impl Parts<'_> {
     }
 
     fn definition(&mut self) -> Result<Definition, Refusal> {
-        Ok(Definition {
-            dst: self.wire()?,
-            rhs: self.operand()?,
-        })
+        Ok(Definition { dst: self.wire()?, rhs: self.operand()? })
     }
 }
 

@@ -2,16 +2,22 @@
 //!
 //! 01 is the paper of scope and rules that this project is built from.
 
+pub mod bench;
 pub mod checks;
+pub mod circuits;
 pub mod compare;
 pub mod damage;
 pub mod evaluate;
+pub mod examples;
 pub mod generate;
 pub mod house;
 pub mod oracle;
+#[cfg(feature = "ours")]
+pub mod ours;
 pub mod outcome;
 pub mod random;
 pub mod rules;
 pub mod second_reader;
 pub mod shifts;
 pub mod system;
+pub mod vectors;

@@ -6,12 +6,14 @@ use std::{
 };
 
 use harness::{
-    compare, damage, generate,
+    bench, circuits, compare, damage, generate,
     house::{self, FULL},
     oracle,
-    outcome::{Outcome, dump, report},
+    outcome::{Fuse, Outcome, dump, report},
+    random::Random,
     rules, shifts,
     system::{MAX_WRITTEN, System},
+    vectors,
 };
 
 /// `fusereport`'s limits.
@@ -28,6 +30,9 @@ usage: harness COMMAND, see README.md
   make KIND SEED > FILE         a generated system as a house file
   compare KIND FIRST COUNT | compare all FIRST COUNT LARGECOUNT
   compare-shifts
+  circuit NAME SIZE SEED > FILE a real circuit as a house file
+  bench REPEATS                 the real circuits: sizes, checks, microseconds of the Rust
+  vectors FOLDER                the files that replay programs read
   damage FIRST COUNT            damaged files through two readers
 ";
 
@@ -65,6 +70,9 @@ fn run(arguments: &[&str]) -> Option<ExitCode> {
             return Some(told(&compare::compare_kind(kind, first.parse().ok()?, count.parse().ok()?)));
         }
         ["damage", first, count] => return Some(damage_files(first.parse().ok()?, count.parse().ok()?)),
+        ["circuit", name, size, seed] => circuit(name, size.parse().ok()?, seed.parse().ok()?)?,
+        ["bench", repeats] => return Some(code(bench::bench(repeats.parse().ok()?))),
+        ["vectors", folder] => print!("{}", vectors::write(folder.as_ref()).expect("the folder can be written")),
         ["compare-shifts"] => return Some(compare_shifts()),
         _ => return None,
     }
@@ -76,8 +84,6 @@ fn input() -> Vec<u8> {
     std::io::stdin().read_to_end(&mut bytes).expect("standard input can be read");
     bytes
 }
-
-type Fuse = fn(&System, usize, usize) -> Outcome;
 
 fn fuse_input(fuse: Fuse, slots: &str, room: &[&str]) -> Option<Outcome> {
     let slots = slots.parse().ok()?;
@@ -104,19 +110,27 @@ fn report_input() -> Outcome {
 }
 
 fn make(kind: &str, seed: &str) -> Option<()> {
-    let system = generate::system(generate::kind_by_name(kind)?, seed.parse().ok()?);
-    let bytes = house::write(&system).ok()?;
+    write_system(&generate::system(generate::kind_by_name(kind)?, seed.parse().ok()?))
+}
+
+fn circuit(name: &str, size: usize, seed: u64) -> Option<()> {
+    let sized = circuits::CIRCUITS.iter().find(|sized| sized.name == name)?;
+    write_system(&(sized.build)(size, &mut Random::new(seed)).system)
+}
+
+fn write_system(system: &System) -> Option<()> {
+    let bytes = house::write(system).ok()?;
     std::io::stdout().write_all(&bytes).expect("standard output can be written");
     Some(())
 }
 
+fn code(good: bool) -> ExitCode {
+    if good { ExitCode::SUCCESS } else { ExitCode::FAILURE }
+}
+
 fn told(totals: &compare::Totals) -> ExitCode {
     println!("all       {totals}");
-    if totals.differences == 0 {
-        ExitCode::SUCCESS
-    } else {
-        ExitCode::FAILURE
-    }
+    code(totals.differences == 0)
 }
 
 fn compare_shifts() -> ExitCode {
@@ -132,7 +146,7 @@ fn compare_shifts() -> ExitCode {
         println!("{name} calls {} differences {} seconds {seconds:.1}", tried.calls, tried.differences);
         differences += tried.differences;
     }
-    if differences == 0 { ExitCode::SUCCESS } else { ExitCode::FAILURE }
+    code(differences == 0)
 }
 
 fn damage_files(first: u64, count: u64) -> ExitCode {
@@ -140,5 +154,5 @@ fn damage_files(first: u64, count: u64) -> ExitCode {
     let read = damage::run(first, count);
     let seconds = start.elapsed().as_secs_f64();
     println!("{read:?} seconds {seconds:.1}");
-    if read.differences == 0 { ExitCode::SUCCESS } else { ExitCode::FAILURE }
+    code(read.differences == 0)
 }

@@ -9,8 +9,8 @@ use binius_core::constraint_system::Shift;
 use binius_frontend::{
     ir::Wire,
     lower::{
-        ConstraintBuilder, PushInner, ShiftedWire, WireAndConstraint, WireBmulConstraint,
-        WireImulConstraint, WireLinearConstraint, WireOperand, WireZeroConstraint, push_inner,
+        ConstraintBuilder, PushInner, ShiftedWire, WireAndConstraint, WireBmulConstraint, WireImulConstraint,
+        WireLinearConstraint, WireOperand, WireZeroConstraint, push_inner,
     },
     pass::fusion::{LOWERED_SHIFT_SLOTS, LeGraph, commit_set::run_decide_commit_set, is_cyclic, patch},
     terms_stored,
@@ -139,13 +139,7 @@ fn fused(system: &System, builder: &ConstraintBuilder, graph: &LeGraph, written:
     let defined = system.linears.iter().map(|definition| definition.dst);
     let mut gone: Vec<u16> = defined.filter(|dst| !remain.contains(dst)).collect();
     gone.sort_unstable();
-    Fused {
-        system: after,
-        committed,
-        gone,
-        stranded,
-        written,
-    }
+    Fused { system: after, committed, gone, stranded, written }
 }
 
 fn system_of(builder: &ConstraintBuilder, wires: usize) -> System {
@@ -156,10 +150,7 @@ fn system_of(builder: &ConstraintBuilder, wires: usize) -> System {
     let bmuls = builder.bmul_constraints.iter();
     let bmuls = bmuls.map(|c| [c.a_lo, c.a_hi, c.b_lo, c.b_hi, c.c_lo, c.c_hi].map(read).to_vec());
     let zeros = builder.zero_constraints.iter().map(|c| vec![read(c.val)]);
-    let linears = builder.linear_constraints.iter().map(|c| Definition {
-        dst: c.dst.0 as u16,
-        rhs: read(c.rhs),
-    });
+    let linears = builder.linear_constraints.iter().map(|c| Definition { dst: c.dst.0 as u16, rhs: read(c.rhs) });
     System {
         wires,
         others: [ands.collect(), imuls.collect(), bmuls.collect(), zeros.collect()],
@@ -187,19 +178,14 @@ impl Cost {
     const WRITE: Self = Self { steps: 1, written: 1 };
 
     fn plus(self, other: Self) -> Self {
-        Self {
-            steps: self.steps.saturating_add(other.steps),
-            written: self.written.saturating_add(other.written),
-        }
+        Self { steps: self.steps.saturating_add(other.steps), written: self.written.saturating_add(other.written) }
     }
 
     fn of(system: &System, graph: &LeGraph) -> Self {
         let mut counting = Counting {
             system,
             definition_of: system.definition_of(),
-            committed: (0..system.wires)
-                .map(|wire| graph.commit_set().contains(Wire(wire as u32)))
-                .collect(),
+            committed: (0..system.wires).map(|wire| graph.commit_set().contains(Wire(wire as u32))).collect(),
             known: HashMap::new(),
         };
         let others = system.others.iter().flatten();

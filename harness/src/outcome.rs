@@ -7,6 +7,9 @@ use crate::{
     system::{Definition, NAMES, Operand, System, Term},
 };
 
+/// Fuses a system with so many slots and a result store of so many terms: the shape of each side that is compared.
+pub type Fuse = fn(&System, usize, usize) -> Outcome;
+
 #[derive(Clone, Debug, PartialEq, Eq)]
 pub enum Outcome {
     /// The reader's fault.
@@ -78,11 +81,7 @@ pub fn dump(outcome: &Outcome) -> String {
 
 fn dump_fused(fused: &Fused) -> String {
     let mut text = String::from("ok\n");
-    for (name, wires) in [
-        ("committed", &fused.committed),
-        ("gone", &fused.gone),
-        ("stranded", &fused.stranded),
-    ] {
+    for (name, wires) in [("committed", &fused.committed), ("gone", &fused.gone), ("stranded", &fused.stranded)] {
         let wires: String = wires.iter().map(|wire| format!(" {wire}")).collect();
         writeln!(text, "{name}{wires}").expect("a string takes all");
     }

@@ -104,7 +104,8 @@ fn payload(tag: u8, bytes: &[u8], seen: &mut Seen) -> Result<Vec<u16>, Refusal> 
         6 => seen.definitions += 1,
         _ => {}
     }
-    let full = seen.wires == 0 || seen.wires > 4096 || seen.definitions > 1024 || seen.others > 1024 || seen.terms > 8192;
+    let full =
+        seen.wires == 0 || seen.wires > 4096 || seen.definitions > 1024 || seen.others > 1024 || seen.terms > 8192;
     if full { Err(FULL) } else { Ok(numbers) }
 }
 

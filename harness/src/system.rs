@@ -67,10 +67,7 @@ pub struct System {
 
 impl System {
     pub fn new(wires: usize) -> Self {
-        Self {
-            wires,
-            ..Self::default()
-        }
+        Self { wires, ..Self::default() }
     }
 
     pub fn other_count(&self) -> usize {

@@ -12,7 +12,7 @@ use Rattle.operand.specs.Numbers.{operandAt, within, operandOf}
 use Rattle.lower.specs.declared.Sizes.{Sizes}
 use Rattle.lower.specs.Lists.{All, done, more}
 use Rattle.lower.specs.Stores.{Stores, rowHandles, handlesIn, Stands, Placed}
-use Rattle.lower.specs.Faults.{unless, orElse, firstFault, termFault, operandFault, rowsFault, pairsFault, definitionsFault, placesFault}
+use Rattle.lower.specs.Faults.{unless, orElse, firstFault, termFault, operandFault, rowsFault, pairsFault, definitionsFault, placesFault, termsIn, fullFault, memoryFault}
 use Rattle.lower.proofs.Firsts.{else-first, else-second, else-split, unless-holds, first-none}
 use Rattle.lower.proofs.Laws.{all-both, all-imp}
 
@@ -69,10 +69,14 @@ pub record Checked (z : Sizes) (s : Stores) : Type 0 where
   pub dsts-in : z .linears ≤ length (s .dsts)
   pub rhss-in : z .linears ≤ length (s .rhss)
   pub dsts-sound : All (λ (d : ℕ). d < z .wires) (take (z .linears) (s .dsts))
-  pub handles-sound : All (λ (h : ℕ). operandFault (z .wires) (s .old) (s .new) h ≡ 0) (handlesIn z s)
+  pub ands-sound : All (λ (h : ℕ). operandFault (z .wires) (s .old) (s .new) h ≡ 0) (take (3 * z .ands) (s .ands))
+  pub imuls-sound : All (λ (h : ℕ). operandFault (z .wires) (s .old) (s .new) h ≡ 0) (take (4 * z .imuls) (s .imuls))
+  pub bmuls-sound : All (λ (h : ℕ). operandFault (z .wires) (s .old) (s .new) h ≡ 0) (take (6 * z .bmuls) (s .bmuls))
+  pub zeros-sound : All (λ (h : ℕ). operandFault (z .wires) (s .old) (s .new) h ≡ 0) (take (z .zeros) (s .zeros))
+  pub rhss-sound : All (λ (h : ℕ). operandFault (z .wires) (s .old) (s .new) h ≡ 0) (take (z .linears) (s .rhss))
 
 pub checked : (z : Sizes) (s : Stores) → placesFault z s ≡ 0 → Checked z s
-unfolding placesFault rowHandles
+unfolding placesFault
 checked z s h =
     let w = z .wires in let o = s .old in let n = s .new in
     let a = else-split (rowsFault w o n 3 (z .ands) (s .ands)) _ h in
@@ -89,18 +93,48 @@ checked z s h =
       dsts-in = defs-in-ds w o n (z .linears) (s .dsts) (s .rhss) (r .1);
       rhss-in = defs-in w o n (z .linears) (s .dsts) (s .rhss) (r .1);
       dsts-sound = l .0;
-      handles-sound = all-both _ (all-both _ (rows-sound w o n 3 (z .ands) (s .ands) (a .0)) (all-both _ (rows-sound w o n 4 (z .imuls) (s .imuls) (i .0))
-          (all-both _ (rows-sound w o n 6 (z .bmuls) (s .bmuls) (b .0)) (rw one at (rows-sound w o n 1 (z .zeros) (s .zeros) (r .0)))))) (l .1);
+      ands-sound = rows-sound w o n 3 (z .ands) (s .ands) (a .0);
+      imuls-sound = rows-sound w o n 4 (z .imuls) (s .imuls) (i .0);
+      bmuls-sound = rows-sound w o n 6 (z .bmuls) (s .bmuls) (b .0);
+      zeros-sound = rw one at (rows-sound w o n 1 (z .zeros) (s .zeros) (r .0));
+      rhss-sound = l .1;
     }
 
-pub placed : (z : Sizes) (s : Stores) → Checked z s → Placed z s
-placed z s y =
-    record {
-      ands-there = y .ands-in;
-      imuls-there = y .imuls-in;
-      bmuls-there = y .bmuls-in;
-      zeros-there = y .zeros-in;
-      dsts-there = y .dsts-in;
-      rhss-there = y .rhss-in;
-      operands-there = all-imp (λ h e. operand-in (z .wires) (s .old) (s .new) h e) _ (y .handles-sound);
-    }
+module _ (z : Sizes) (s : Stores) (y : Checked z s) where
+  pub handles-sound : All (λ (h : ℕ). operandFault (z .wires) (s .old) (s .new) h ≡ 0) (handlesIn z s)
+  unfolding rowHandles
+  handles-sound = all-both _ (all-both _ (y .ands-sound) (all-both _ (y .imuls-sound) (all-both _ (y .bmuls-sound) (y .zeros-sound)))) (y .rhss-sound)
+
+  pub stand : (hs : List ℕ) → All (λ (h : ℕ). operandFault (z .wires) (s .old) (s .new) h ≡ 0) hs → All (Stands (s .old) (s .new)) hs
+  stand hs = all-imp (λ h e. operand-in (z .wires) (s .old) (s .new) h e) hs
+
+  pub placed : Placed z s
+  placed =
+      record {
+        ands-there = y .ands-in;
+        imuls-there = y .imuls-in;
+        bmuls-there = y .bmuls-in;
+        zeros-there = y .zeros-in;
+        dsts-there = y .dsts-in;
+        rhss-there = y .rhss-in;
+        operands-there = stand (handlesIn z s) handles-sound;
+      }
+
+  pub dsts-small : z .wires ≤ 4096 → All (λ (d : ℕ). d < 4096) (take (z .linears) (s .dsts))
+  dsts-small few = all-imp (λ d (h : d < z .wires). omega (arith, h, few)) (take (z .linears) (s .dsts)) (y .dsts-sound)
+
+module _ (limit : ℕ) (z : Sizes) (s : Stores) (e : memoryFault limit z s ≡ 0) where
+  pub memory-places : placesFault z s ≡ 0
+  unfolding memoryFault
+  memory-places = else-first (placesFault z s) _ e
+
+  pub memory-full : fullFault limit z (termsIn z s) ≡ 0
+  unfolding memoryFault
+  memory-full = else-second (placesFault z s) _ e
+
+  pub memory-wires : z .wires ≤ 4096
+  unfolding fullFault
+  memory-wires =
+      let w = z .wires in
+      let f = else-second (unless (ltb 0 w) 6) _ memory-full in
+      leb-true _ _ (unless-holds (leb w 4096) 6 (omega arith) (else-first (unless (leb w 4096) 6) _ f))

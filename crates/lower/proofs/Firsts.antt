@@ -1,5 +1,5 @@
 -- The first fault of a list, and loops that look for it. Assumes nothing.
-use mathlib.Core.Path.{_≡_, refl, sym, ap, _∙_}
+use mathlib.Core.Path.{_≡_, refl, sym, ap, subst, _∙_}
 use mathlib.Core.List.{List, [], _∷_, _++_, map}
 use mathlib.Core.Bool.{Bool, true, false}
 use Prim.Native.Nat.{ℕ, zero, suc, _+_, _*_, _-_, _≤_, _<_, _/_}
@@ -99,6 +99,15 @@ part-step l n i d p q =
 
 pub part-end : {A : Type 0} (l : List A) (n i : ℕ) → n ≤ length l → n ≤ i → drop i (take n l) ≡ []
 part-end l n i q p = drop-of-length-le (take n l) {i = i} (rw (length-take-le n l q) p)
+
+-- what holds of the first n holds of the i-th
+pub part-all : {A : Type 0} {P : A → Type 0} (l : List A) (n i : ℕ) (d : A) → All P (take n l) → i < n → n ≤ length l → P (getD l i d)
+part-all {P = P} l n i d h p q = subst P (getD-take n l i d p) (at (take n l) i h (rw (length-take-le n l q) p))
+  where
+    at : (l : List _) (i : ℕ) → All P l → i < length l → P (getD l i d)
+    at [] i h p = absurd (omega arith)
+    at (x ∷ l) zero (more q h) p = q
+    at (x ∷ l) (suc i) (more q h) p = at l i h (omega arith)
 
 -- one turn of a sum that is taken from the end
 pub sum-back : (f : ℕ → ℕ) (l : List ℕ) (n i : ℕ) → 0 < i → i ≤ n → n ≤ length l

@@ -2,3 +2,5 @@ pub mod Firsts
 pub mod Laws
 pub mod Checks
 pub mod Shifts
+pub mod Somes
+pub mod Doubles

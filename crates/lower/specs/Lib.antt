@@ -4,3 +4,4 @@ pub mod Values
 pub mod Accepted
 pub mod Stores
 pub mod Faults
+pub mod Tables

@@ -1,8 +1,10 @@
 // The five lists of a constraint system in lent stores. Follows frontend/src/lower/mod.rs; the checks are added.
 ghost use mathlib.Core.Path.{_≡_};
-ghost use Rattle.lower.specs.Stores.{stores};
-ghost use Rattle.lower.specs.Faults.{memoryFault, placesFault};
+ghost use Prim.Native.Nat.{_≤_};
+ghost use Rattle.lower.specs.Stores.{stores, systemOf};
+ghost use Rattle.lower.specs.Faults.{memoryFault, placesFault, definitionFault, faultOf};
 
+pub mod definitions;
 pub mod full;
 pub mod places;
 
@@ -98,4 +100,55 @@ pub fn check<'a>(
         return misplaced;
     }
     full::full_fault(ands, imuls, bmuls, zeros, rhss, z, limit)
+}
+
+// 8, 9 and 10, each over the whole system before the next, where `check` has found nothing.
+pub fn check_definitions<'a>(
+    old: &'a [u64],
+    new: &'a [u64],
+    ands: &[u64],
+    imuls: &[u64],
+    bmuls: &[u64],
+    zeros: &[u64],
+    dsts: &[u16],
+    rhss: &[u64],
+    z: Sizes,
+) -> u8
+    requires { ⌜ placesFault z (stores (now old) (now new) (now ands) (now imuls) (now bmuls) (now zeros) (now dsts) (now rhss)) ≡ 0 ⌝ }
+    requires { ⌜ z .wires ≤ 4096 ⌝ }
+    ensures { λ r. ⌜ r ≡ definitionFault (systemOf z (stores (now (old .entry)) (now (new .entry)) (now (ands .entry)) (now (imuls .entry)) (now (bmuls .entry)) (now (zeros .entry)) (now (dsts .entry)) (now (rhss .entry)))) ⌝ }
+{
+    let n = z.linears;
+    if definitions::is_twice(dsts, n) {
+        return TWICE;
+    }
+    if definitions::has_empty(rhss, n) {
+        return EMPTY;
+    }
+    if definitions::has_double(old, new, ands, imuls, bmuls, zeros, dsts, rhss, z) {
+        return DOUBLE;
+    }
+    0
+}
+
+// Everything up to 10.
+pub fn check_all<'a>(
+    old: &'a [u64],
+    new: &'a [u64],
+    ands: &[u64],
+    imuls: &[u64],
+    bmuls: &[u64],
+    zeros: &[u64],
+    dsts: &[u16],
+    rhss: &[u64],
+    z: Sizes,
+    limit: u64,
+) -> u8
+    ensures { λ r. ⌜ r ≡ faultOf limit z (stores (now (old .entry)) (now (new .entry)) (now (ands .entry)) (now (imuls .entry)) (now (bmuls .entry)) (now (zeros .entry)) (now (dsts .entry)) (now (rhss .entry))) ⌝ }
+{
+    let fault = check(old, new, ands, imuls, bmuls, zeros, dsts, rhss, z, limit);
+    if fault != 0 {
+        return fault;
+    }
+    check_definitions(old, new, ands, imuls, bmuls, zeros, dsts, rhss, z)
 }

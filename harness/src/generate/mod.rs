@@ -16,23 +16,15 @@ pub struct Kind {
 }
 
 const fn small(name: &'static str, make: Make) -> Kind {
-    Kind {
-        name,
-        make,
-        large: false,
-    }
+    Kind { name, make, large: false }
 }
 
 const fn large(name: &'static str, make: Make) -> Kind {
-    Kind {
-        name,
-        make,
-        large: true,
-    }
+    Kind { name, make, large: true }
 }
 
 /// A kind's place in this list is part of its seeds: add new kinds at the end.
-pub const KINDS: [Kind; 15] = [
+pub const KINDS: [Kind; 16] = [
     small("dense", shapes::dense),
     small("chain", shapes::chain),
     small("product", shapes::product),
@@ -48,6 +40,7 @@ pub const KINDS: [Kind; 15] = [
     large("limit", limits::limit),
     large("room", limits::room),
     large("endless", special::endless),
+    small("path", shapes::path),
 ];
 
 pub fn system(kind: usize, seed: u64) -> System {

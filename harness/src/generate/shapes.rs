@@ -53,18 +53,12 @@ const AMOUNTS: [u16; 16] = [1, 2, 5, 7, 15, 16, 17, 24, 30, 31, 32, 33, 40, 48, 
 /// Some shifts of a few variants.
 pub fn palette(random: &mut Random, variants: usize, shifts: usize) -> Vec<u16> {
     let chosen: Vec<u16> = (0..random.between(1, variants)).map(|_| random.below(8) as u16).collect();
-    (0..random.between(1, shifts))
-        .map(|_| any_amount(random, &chosen))
-        .collect()
+    (0..random.between(1, shifts)).map(|_| any_amount(random, &chosen)).collect()
 }
 
 fn any_amount(random: &mut Random, variants: &[u16]) -> u16 {
     let variant = *random.pick(variants);
-    let amount = if random.percent(80) {
-        *random.pick(&AMOUNTS)
-    } else {
-        random.between(1, 63) as u16
-    };
+    let amount = if random.percent(80) { *random.pick(&AMOUNTS) } else { random.between(1, 63) as u16 };
     64 * variant + amount.min(width(variant) - 1)
 }
 
@@ -89,11 +83,7 @@ pub struct Draft {
 
 impl Draft {
     pub fn new(undefined: usize) -> Self {
-        Self {
-            undefined,
-            definitions: Vec::new(),
-            others: Vec::new(),
-        }
+        Self { undefined, definitions: Vec::new(), others: Vec::new() }
     }
 
     /// The wire of the next definition.
@@ -131,10 +121,7 @@ impl Draft {
 
     fn named(self, names: &[u16]) -> System {
         let rename = |operand: Operand| -> Operand {
-            let renamed = operand.into_iter().map(|term| Term {
-                wire: names[usize::from(term.wire)],
-                ..term
-            });
+            let renamed = operand.into_iter().map(|term| Term { wire: names[usize::from(term.wire)], ..term });
             renamed.collect()
         };
         let mut system = System::new(names.len());
@@ -153,10 +140,8 @@ pub fn draft(random: &mut Random, shape: &Shape) -> Draft {
     let mut draft = Draft::new(between(random, shape.undefined));
     for _ in 0..between(random, shape.definitions) {
         let rhs = operand(random, shape, &draft, shape.rhs);
-        let single = rhs.into_iter().map(|term| Term {
-            outer: if term.outer % 64 == 0 { term.outer } else { 0 },
-            ..term
-        });
+        let single =
+            rhs.into_iter().map(|term| Term { outer: if term.outer % 64 == 0 { term.outer } else { 0 }, ..term });
         let rhs = single.collect();
         draft.define(rhs);
     }
@@ -213,7 +198,11 @@ pub fn dense(random: &mut Random) -> System {
 /// Chains around depth 6 to 8, with other uses along them.
 pub fn chain(random: &mut Random) -> System {
     let variant = random.below(8) as u16;
-    let step = if random.percent(60) { 0 } else { 64 * variant + random.between(1, 4) as u16 };
+    let step = match random.below(10) {
+        0..=5 => 0,
+        6..=7 => 64 * variant + random.between(1, 4) as u16,
+        _ => any_amount(random, &[variant]),
+    };
     let mut draft = Draft::new(random.between(1, 3));
     let mut below = Term::single(random.below(draft.undefined) as u16, step);
     for _ in 0..random.between(5, 18) {
@@ -227,12 +216,7 @@ pub fn chain(random: &mut Random) -> System {
         below = Term::single(wire, if random.percent(70) { 0 } else { step });
     }
     draft.zero(vec![below]);
-    let shape = Shape {
-        palette: vec![step],
-        others: (0, 2),
-        reach: 20,
-        ..Shape::small(random)
-    };
+    let shape = Shape { palette: vec![step], others: (0, 2), reach: 20, ..Shape::small(random) };
     for _ in 0..between(random, shape.others) {
         let other = other(random, &shape, &draft);
         draft.others.push(other);
@@ -242,7 +226,8 @@ pub fn chain(random: &mut Random) -> System {
 
 /// A definition read so often that (terms - 1) x (uses - 1) is around 4 and 5, by one run or by two.
 pub fn product(random: &mut Random) -> System {
-    let (terms, uses) = *random.pick(&[(2, 5), (2, 6), (3, 3), (5, 2), (6, 2), (3, 4), (4, 2), (2, 4), (4, 3), (1, 9), (9, 1)]);
+    let (terms, uses) =
+        *random.pick(&[(2, 5), (2, 6), (3, 3), (5, 2), (6, 2), (3, 4), (4, 2), (2, 4), (4, 3), (1, 9), (9, 1)]);
     let inner = palette(random, 1, 2);
     let outer = if random.percent(70) { palette(random, 2, 2) } else { inner.clone() };
     let mut draft = Draft::new(random.between(1, 4));
@@ -323,35 +308,19 @@ pub fn drop(random: &mut Random) -> System {
 
 /// Definitions that nothing reads, alone and on top of others.
 pub fn dead(random: &mut Random) -> System {
-    let shape = Shape {
-        definitions: (2, 12),
-        others: (0, 1),
-        operand: (0, 1),
-        defined: 50,
-        ..Shape::small(random)
-    };
+    let shape = Shape { definitions: (2, 12), others: (0, 1), operand: (0, 1), defined: 50, ..Shape::small(random) };
     draft(random, &shape).shuffled(random)
 }
 
 /// Identities spelt in all ways, in both slots.
 pub fn identity(random: &mut Random) -> System {
-    let shape = Shape {
-        odd: 60,
-        plain: 20,
-        palette: palette(random, 2, 2),
-        ..Shape::small(random)
-    };
+    let shape = Shape { odd: 60, plain: 20, palette: palette(random, 2, 2), ..Shape::small(random) };
     draft(random, &shape).shuffled(random)
 }
 
 /// Terms with two shifts on undefined wires.
 pub fn doubled(random: &mut Random) -> System {
-    let shape = Shape {
-        doubled: 70,
-        defined: 40,
-        operand: (1, 4),
-        ..Shape::small(random)
-    };
+    let shape = Shape { doubled: 70, defined: 40, operand: (1, 4), ..Shape::small(random) };
     draft(random, &shape).shuffled(random)
 }
 
@@ -390,4 +359,20 @@ pub fn wide(random: &mut Random) -> System {
         doubled: 5,
     };
     draft(random, &shape).shuffled(random)
+}
+
+/// A straight path of definitions of one term, with any shifts.
+pub fn path(random: &mut Random) -> System {
+    let mut draft = Draft::new(1);
+    let mut below = 0;
+    for _ in 0..random.between(1, 4) {
+        below = draft.define(vec![Term::single(below, valid_shift(random))]);
+    }
+    draft.zero(vec![Term::single(below, valid_shift(random))]);
+    draft.shuffled(random)
+}
+
+fn valid_shift(random: &mut Random) -> u16 {
+    let variant = random.below(8) as u16;
+    64 * variant + random.below(width(variant).into()) as u16
 }

@@ -3,6 +3,7 @@
 use super::shapes::{Draft, Shape, draft, palette};
 use crate::{
     random::Random,
+    rules::shift::{SLL, SLL32, SLR, SRL32, shift, width},
     system::{Definition, System, Term},
 };
 
@@ -69,7 +70,8 @@ pub fn tower(random: &mut Random) -> System {
     let mut below = 0;
     for _ in 0..random.between(2, 9) {
         let copies = random.between(1, 5);
-        let term = |random: &mut Random| Term::single(below, if random.percent(15) { *random.pick(&shifts) } else { 0 });
+        let term =
+            |random: &mut Random| Term::single(below, if random.percent(15) { *random.pick(&shifts) } else { 0 });
         let rhs = (0..copies).map(|_| term(random)).collect();
         below = draft.define(rhs);
     }
@@ -82,15 +84,37 @@ pub fn tower(random: &mut Random) -> System {
 /// Accepted systems whose plain expansion looks at more terms than anyone waits for, though next to nothing is written: the last
 /// definition shifts out all that is left.
 pub fn endless(random: &mut Random) -> System {
-    let variant = *random.pick(&[0u16, 1, 4, 5]);
-    let far = 64 * variant + if variant < 4 { 40 } else { 20 };
     let copies = random.between(2, 1000);
-    let levels = random.between(1, 6);
+    if random.percent(50) {
+        return endless_by_one(random, copies);
+    }
+    endless_by_two(random, copies)
+}
+
+/// All in one run: definitions of many terms, each read as often.
+fn endless_by_one(random: &mut Random, copies: usize) -> System {
+    let variant = *random.pick(&[SLL, SLR, SLL32, SRL32]);
+    let far = shift(variant, width(variant) / 2 + 8);
     let mut draft = Draft::new(1);
     let mut below = draft.define(vec![Term::single(0, far)]);
-    for _ in 0..levels {
+    for _ in 0..random.between(1, 6) {
         below = draft.define(vec![Term::plain(below); copies]);
     }
     draft.zero(vec![Term::single(below, far)]);
+    draft.shuffled(random)
+}
+
+/// In two runs, which many terms read often would not be let: so definitions of many terms read once, and of one term read often, by
+/// turns. The last shift joins the inner run, and so far inside that the outer shift then continues it: sll 50, sll32 20 is Zero.
+fn endless_by_two(random: &mut Random, copies: usize) -> System {
+    let (half, full) = *random.pick(&[(SLL32, SLL), (SRL32, SLR)]);
+    let mut draft = Draft::new(1);
+    let mut below = draft.define(vec![Term::single(0, shift(full, 30))]);
+    for _ in 0..random.between(1, 4) {
+        let many = draft.define(vec![Term::plain(below); copies]);
+        below = draft.define(vec![Term::plain(many)]);
+    }
+    let top = draft.define(vec![Term::single(below, shift(full, 20))]);
+    draft.zero(vec![Term::single(top, shift(half, 20))]);
     draft.shuffled(random)
 }

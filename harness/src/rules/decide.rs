@@ -62,20 +62,39 @@ impl Context {
     }
 }
 
+/// The three grounds on which a definition commits.
+#[derive(Copy, Clone, Debug, Default, PartialEq, Eq)]
+pub struct Grounds {
+    pub over_slots: bool,
+    pub too_deep: bool,
+    pub multiplies_out: bool,
+}
+
+impl Grounds {
+    pub fn any(self) -> bool {
+        self.over_slots || self.too_deep || self.multiplies_out
+    }
+}
+
 /// For each definition, by position, whether it commits. The system is one that `check` lets through.
 pub fn decide(system: &System, slots: usize) -> Vec<bool> {
+    grounds(system, slots).into_iter().map(Grounds::any).collect()
+}
+
+/// For each definition, by position, on which grounds it commits.
+pub fn grounds(system: &System, slots: usize) -> Vec<Grounds> {
     let mut walk = Walk::new(system);
-    let mut commits = vec![false; system.linears.len()];
+    let mut grounds = vec![Grounds::default(); system.linears.len()];
     while let Some(position) = walk.ready.pop() {
         let uses = std::mem::take(&mut walk.uses[position]);
         let terms = &system.linears[position].rhs;
-        commits[position] = commit(&uses, terms, slots);
-        let above = if commits[position] { None } else { Some(joined(&uses)) };
+        grounds[position] = grounds_of(&uses, terms, slots);
+        let above = if grounds[position].any() { None } else { Some(joined(&uses)) };
         for term in terms {
             walk.note_decided_use(term.wire, below(above.as_ref(), term.inner));
         }
     }
-    commits
+    grounds
 }
 
 /// Definitions become ready once all their uses have a context.
@@ -121,14 +140,15 @@ impl Walk {
     }
 }
 
-/// The three grounds on which a definition commits.
-fn commit(uses: &[Context], terms: &[Term], slots: usize) -> bool {
+fn grounds_of(uses: &[Context], terms: &[Term], slots: usize) -> Grounds {
     let greatest = greatest_run_count(uses, terms);
     let depth = uses.iter().map(|context| context.depth).max().unwrap_or(0);
     let growth = terms.len().saturating_sub(1) * uses.len().saturating_sub(1);
-    greatest > slots
-        || depth > MAX_DEPTH && terms.len() != 1
-        || greatest > 1 && growth > MAX_TERM_GROWTH
+    Grounds {
+        over_slots: greatest > slots,
+        too_deep: depth > MAX_DEPTH && terms.len() != 1,
+        multiplies_out: greatest > 1 && growth > MAX_TERM_GROWTH,
+    }
 }
 
 /// Over all sums of a use's context and a term's shift. Equal contexts and equal shifts have equal sums, so each is looked at once.
@@ -136,9 +156,7 @@ fn greatest_run_count(uses: &[Context], terms: &[Term]) -> usize {
     let mut shifts: Vec<u16> = terms.iter().map(|term| term.inner).collect();
     shifts.sort_unstable();
     shifts.dedup();
-    let sums = uses
-        .iter()
-        .flat_map(|context| shifts.iter().map(|&shift| context.plus(shift)));
+    let sums = uses.iter().flat_map(|context| shifts.iter().map(|&shift| context.plus(shift)));
     sums.map(|sum| sum.runs.len()).max().unwrap_or(0)
 }
 

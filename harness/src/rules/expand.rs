@@ -24,11 +24,7 @@ pub fn patched(system: &System, commits: &[bool], slots: usize, room: usize) -> 
     let stranded = (0..commits.len()).filter(|&at| !commits[at] && !met[at]);
     after.linears = stranded.map(|at| system.linears[at].clone()).collect();
     after.linears.extend(rebuilt);
-    Some(Patched {
-        system: after,
-        met,
-        written: expansion.written,
-    })
+    Some(Patched { system: after, met, written: expansion.written })
 }
 
 struct Expansion<'a> {

@@ -102,8 +102,7 @@ pub fn compose(inner: u16, outer: u16) -> Composition {
 
 /// "sar 63 then rotr or rotr32, and sra32 31 then rotr32"
 fn rotates_one_bit(inner: u16, outer: u16) -> bool {
-    inner == shift(SAR, 63) && is_cyclic(variant(outer))
-        || inner == shift(SRA32, 31) && variant(outer) == ROTR32
+    inner == shift(SAR, 63) && is_cyclic(variant(outer)) || inner == shift(SRA32, 31) && variant(outer) == ROTR32
 }
 
 /// "sar or sra32 then slr 63, and sra32 then srl32 31"
@@ -117,9 +116,7 @@ fn chain(inner: u16, outer: u16) -> Option<u16> {
         return Some(variant(inner));
     }
     let row = CHAINS.iter().find(|row| {
-        (row.0, row.1) == (variant(inner), variant(outer))
-            && amount(inner) >= row.2
-            && amount(outer) >= row.3
+        (row.0, row.1) == (variant(inner), variant(outer)) && amount(inner) >= row.2 && amount(outer) >= row.3
     });
     row.map(|row| row.4)
 }

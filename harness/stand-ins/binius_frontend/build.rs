@@ -12,7 +12,8 @@ use std::{
 fn main() {
     println!("cargo::rerun-if-env-changed=BINIUS64");
     println!("cargo::rerun-if-changed=stand-in");
-    let folder = PathBuf::from(env::var("BINIUS64").expect("BINIUS64 names the folder with the seven files: use harness/build"));
+    let folder =
+        PathBuf::from(env::var("BINIUS64").expect("BINIUS64 names the folder with the seven files: use harness/build"));
     let source = folder.join("crates/frontend/src");
     let out = PathBuf::from(env::var("OUT_DIR").expect("cargo sets OUT_DIR"));
     lay_out_lower(&source, &out);

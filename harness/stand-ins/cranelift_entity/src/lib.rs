@@ -35,10 +35,7 @@ pub struct PrimaryMap<K, V> {
 
 impl<K: EntityRef, V> PrimaryMap<K, V> {
     pub const fn new() -> Self {
-        Self {
-            values: Vec::new(),
-            key: PhantomData,
-        }
+        Self { values: Vec::new(), key: PhantomData }
     }
 
     pub fn push(&mut self, value: V) -> K {
@@ -69,11 +66,7 @@ pub struct SecondaryMap<K, V> {
 
 impl<K: EntityRef, V: Clone + Default> SecondaryMap<K, V> {
     pub fn new() -> Self {
-        Self {
-            values: Vec::new(),
-            default: V::default(),
-            key: PhantomData,
-        }
+        Self { values: Vec::new(), default: V::default(), key: PhantomData }
     }
 }
 
@@ -103,10 +96,7 @@ pub struct EntitySet<K> {
 
 impl<K: EntityRef> EntitySet<K> {
     pub const fn new() -> Self {
-        Self {
-            bits: Vec::new(),
-            key: PhantomData,
-        }
+        Self { bits: Vec::new(), key: PhantomData }
     }
 
     /// Whether the key is new.
@@ -126,9 +116,7 @@ impl<K: EntityRef> EntitySet<K> {
     }
 
     pub fn iter(&self) -> impl Iterator<Item = K> + '_ {
-        (0..self.bits.len() * 64)
-            .map(K::new)
-            .filter(|&key| self.contains(key))
+        (0..self.bits.len() * 64).map(K::new).filter(|&key| self.contains(key))
     }
 }
 
