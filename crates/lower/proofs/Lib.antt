@@ -4,3 +4,5 @@ pub mod Checks
 pub mod Shifts
 pub mod Somes
 pub mod Doubles
+pub mod Alls
+pub mod Sounds

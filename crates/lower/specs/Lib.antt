@@ -5,3 +5,4 @@ pub mod Accepted
 pub mod Stores
 pub mod Faults
 pub mod Tables
+pub mod Explained
