@@ -6,3 +6,5 @@ pub mod Somes
 pub mod Doubles
 pub mod Alls
 pub mod Sounds
+pub mod Accepts
+pub mod Explains

@@ -12,6 +12,22 @@ use Rattle.lower.specs.Lists.{All, done, more, someOf, joined}
 use Rattle.lower.specs.Faults.{repeated}
 use Rattle.lower.specs.Tables.{marks, marked}
 
+-- ---- tests
+
+pub neither : (a b : Bool) → (a || b) ≡ false → (a ≡ false) × (b ≡ false)
+neither true b h = absurd (let z : _≡_ {A = ℕ} 0 1 = cc in omega arith)
+neither false b h = (refl, h)
+
+or-assoc : (a b c : Bool) → (a || (b || c)) ≡ ((a || b) || c)
+or-assoc true b c = refl
+or-assoc false b c = refl
+
+or-swap : (a b c : Bool) → (a || (b || c)) ≡ ((b || a) || c)
+or-swap true true c = refl
+or-swap true false c = refl
+or-swap false true c = refl
+or-swap false false c = refl
+
 -- ---- someOf
 
 module _ {A : Type 0} (p : A → Bool) where
@@ -26,10 +42,6 @@ module _ {A : Type 0} (p : A → Bool) where
   pub some-append : (a b : List A) → someOf p (a ++ b) ≡ (someOf p a || someOf p b)
   some-append [] b = refl
   some-append (x ∷ a) b = rw (some-append a b) (or-assoc (p x) (someOf p a) (someOf p b))
-    where
-      or-assoc : (a b c : Bool) → (a || (b || c)) ≡ ((a || b) || c)
-      or-assoc true b c = refl
-      or-assoc false b c = refl
 
   pub some-joined : (ls : List (List A)) → someOf p (joined ls) ≡ someOf (λ (l : List A). someOf p l) ls
   some-joined [] = refl
@@ -39,10 +51,6 @@ module _ {A : Type 0} (p : A → Bool) where
   pub none-all : (l : List A) → someOf p l ≡ false → All (λ (x : A). p x ≡ false) l
   none-all [] h = done
   none-all (x ∷ l) h = let b = neither (p x) (someOf p l) h in more (b .0) (none-all l (b .1))
-    where
-      neither : (a b : Bool) → (a || b) ≡ false → (a ≡ false) × (b ≡ false)
-      neither true b h = absurd (let z : _≡_ {A = ℕ} 0 1 = cc in omega arith)
-      neither false b h = (refl, h)
 
   pub all-none : (l : List A) → All (λ (x : A). p x ≡ false) l → someOf p l ≡ false
   all-none [] done = refl
@@ -74,13 +82,7 @@ marked-none (suc n) (suc w) = marked-none n w
 pub marked-all : (ds l : List ℕ) (w : ℕ) → All (λ (d : ℕ). d < length l) ds → marked (marks l ds) w ≡ (someOf (eqb w) ds || marked l w)
 marked-all [] l w h = refl
 marked-all (d ∷ ds) l w (more p h) =
-    marked-all ds (set l d 1) w (rw (length-set l d 1) h) ∙ rw (marked-set l d w p) (shuffle (someOf (eqb w) ds) (eqb w d) (marked l w))
-  where
-    shuffle : (s e m : Bool) → (s || (e || m)) ≡ ((e || s) || m)
-    shuffle true true m = refl
-    shuffle true false m = refl
-    shuffle false true m = refl
-    shuffle false false m = refl
+    marked-all ds (set l d 1) w (rw (length-set l d 1) h) ∙ rw (marked-set l d w p) (or-swap (someOf (eqb w) ds) (eqb w d) (marked l w))
 
 -- one turn of a loop that marks
 pub marks-step : (l : List ℕ) (m : List ℕ) (i x : ℕ) → drop i m ≡ x ∷ drop (i + 1) m → marks l (drop i m) ≡ marks (set l x 1) (drop (i + 1) m)
@@ -96,7 +98,7 @@ module _ (met m : List ℕ) (i x : ℕ) (e : drop i m ≡ x ∷ drop (i + 1) m) 
   again-stop h = rw (e, h)
 
   pub again-go : x < length met → marked met x ≡ false → again met (drop i m) ≡ again (set met x 1) (drop (i + 1) m)
-  again-go p h = rw (e, h, newly (drop (i + 1) m)) (shuffle (someOf (marked met) (drop (i + 1) m)) (someOf (eqb x) (drop (i + 1) m)) (repeated (drop (i + 1) m)))
+  again-go p h = rw (e, h, newly (drop (i + 1) m)) (or-swap (someOf (marked met) (drop (i + 1) m)) (someOf (eqb x) (drop (i + 1) m)) (repeated (drop (i + 1) m)))
     where
       swapped : (a b : ℕ) → eqb a b ≡ eqb b a
       swapped a b = go (eqb b a) refl
@@ -115,11 +117,6 @@ module _ (met m : List ℕ) (i x : ℕ) (e : drop i m ≡ x ∷ drop (i + 1) m) 
           mixed false true false d = refl
           mixed false false c d = refl
 
-      shuffle : (s e r : Bool) → (s || (e || r)) ≡ ((e || s) || r)
-      shuffle true true r = refl
-      shuffle true false r = refl
-      shuffle false true r = refl
-      shuffle false false r = refl
 
 pub again-none : (n : ℕ) (l : List ℕ) → again (replicate n 0) l ≡ repeated l
 again-none n l = rw (all-none (marked (replicate n 0)) l (every l))
