@@ -30,39 +30,47 @@ use Rattle.lower.proofs.Sounds.{only-345, not-3, not-4, not-5, sound-pl
 pub once-right : (ds : List Definition) → repeated (destinations ds) ≡ false ↔ Once ds
 once-right [] = (λ e. tt, λ o. refl)
 once-right (d ∷ ds) =
-    let k = once-right ds in
-    (λ e. let b = neither (defines ds (d .dst)) (repeated (destinations ds)) e in (b .0, k .0 (b .1)),
-     λ o. rw (o .0, k .1 (o .1)))
+    let k = once-right ds in (
+      λ e. let b = neither (defines ds (d .dst)) (repeated (destinations ds)) e in (b .0, k .0 (b .1)),
+      λ o. rw (o .0, k .1 (o .1)),
+    )
 
 pub not-empty-right : (p : System) → empty p ≡ false ↔ NotEmpty p
 unfolding definitionOperands
-not-empty-right p =
-    (λ e. all-imp some (p .linears) (all-unmap (λ (o : Operand). isEmpty o ≡ false) (λ (d : Definition). d .rhs) (p .linears) (none-all (λ (o : Operand). isEmpty o) _ e)),
-     λ h. all-none (λ (o : Operand). isEmpty o) _ (all-map (λ (o : Operand). isEmpty o ≡ false) (λ (d : Definition). d .rhs) (p .linears) (all-imp none (p .linears) h)))
+not-empty-right p = (
+  λ e. all-imp some (p .linears) (all-unmap (λ (o : Operand). isEmpty o ≡ false) (λ (d : Definition). d .rhs) (p .linears) (none-all (λ (o : Operand). isEmpty o) _ e)),
+  λ h. all-none (λ (o : Operand). isEmpty o) _ (all-map (λ (o : Operand). isEmpty o ≡ false) (λ (d : Definition). d .rhs) (p .linears) (all-imp none (p .linears) h)),
+)
   where
     some : (d : Definition) → isEmpty (d .rhs) ≡ false → 0 < length (d .rhs)
     some d e = let n = eqb-false (length (d .rhs)) 0 e in omega (arith, n)
+
     none : (d : Definition) → 0 < length (d .rhs) → isEmpty (d .rhs) ≡ false
     none d h = ne-eqb (length (d .rhs)) 0 (λ e. omega (arith, h, e))
 
 pub single-right : (p : System) → double p ≡ false ↔ Single p
-single-right p =
-    (λ e. let b = neither _ _ e in
+single-right p = (
+  λ e. let b = neither _ _ e in
       record {
         definitions-single = all-imp (λ (t : Term) k. not-false (isIdentity (t .outer)) k) _ (none-all isDouble _ (b .0));
         uses-single = all-imp (λ (t : Term) k. used t k) _ (none-all (λ (t : Term). isDouble t && defines (p .linears) (t .wire)) _ (b .1));
       },
-     λ y. rw (all-none isDouble (joined (definitionOperands p)) (all-imp (λ (t : Term) k. single t k) _ (y .definitions-single)),
-       all-none (λ (t : Term). isDouble t && defines (p .linears) (t .wire)) (termsOf p) (all-imp (λ (t : Term) k. unused t k) _ (y .uses-single))))
+  λ y. rw (
+    all-none isDouble (joined (definitionOperands p)) (all-imp (λ (t : Term) k. single t k) _ (y .definitions-single)),
+    all-none (λ (t : Term). isDouble t && defines (p .linears) (t .wire)) (termsOf p) (all-imp (λ (t : Term) k. unused t k) _ (y .uses-single)),
+  ),
+)
   where
     single : (t : Term) → isIdentity (t .outer) ≡ true → isDouble t ≡ false
     single t e = rw e
+
     used : (t : Term) → (isDouble t && defines (p .linears) (t .wire)) ≡ false → defines (p .linears) (t .wire) ≡ true → isIdentity (t .outer) ≡ true
     used t k d = go (isIdentity (t .outer)) (defines (p .linears) (t .wire)) k d
       where
         go : (a b : Bool) → (not a && b) ≡ false → b ≡ true → a ≡ true
         go true b k d = refl
         go false b k d = absurd (let z : _≡_ {A = ℕ} 0 1 = cc in omega arith)
+
     unused : (t : Term) → (defines (p .linears) (t .wire) ≡ true → isIdentity (t .outer) ≡ true) → (isDouble t && defines (p .linears) (t .wire)) ≡ false
     unused t k = go (isIdentity (t .outer)) (defines (p .linears) (t .wire)) k
       where
@@ -92,24 +100,25 @@ module _ (limit : ℕ) (z : Sizes) (s : Stores) (y : Placed z s) where
   full-right =
       let w = z .wires in
       let n = linears-length z s (y .dsts-there) (y .rhss-there) in
-      let t = terms-model z s y in
-      (λ e.
-        let f1 = else-second (unless (ltb 0 w) 6) _ e in
-        let f2 = else-second (unless (leb w 4096) 6) _ f1 in
-        let f3 = else-second (unless (leb (z .linears) 1024) 6) _ f2 in
-        let f4 = else-second (unless (leb (z .ands + z .imuls + z .bmuls + z .zeros) 1024) 6) _ f3 in
-        record {
-          wires-some = ltb-true _ _ (unless-holds (ltb 0 w) 6 (omega arith) (else-first (unless (ltb 0 w) 6) _ e));
-          wires-few = leb-true _ _ (unless-holds (leb w 4096) 6 (omega arith) (else-first (unless (leb w 4096) 6) _ f1));
-          definitions-few = rw n (leb-true (z .linears) 1024 (unless-holds (leb (z .linears) 1024) 6 (omega arith) (else-first (unless (leb (z .linears) 1024) 6) _ f2)));
-          others-few = rw others (leb-true (z .ands + z .imuls + z .bmuls + z .zeros) 1024 (unless-holds _ 6 (omega arith) (else-first (unless (leb (z .ands + z .imuls + z .bmuls + z .zeros) 1024) 6) _ f3)));
-          terms-few = rw (← t) (leb-true (termsIn z s) limit (unless-holds (leb (termsIn z s) limit) 6 (omega arith) f4));
-        },
-       λ l.
-        let a : z .linears ≤ 1024 = rw n at (l .definitions-few) in
-        let b : z .ands + z .imuls + z .bmuls + z .zeros ≤ 1024 = rw others at (l .others-few) in
-        let c : termsIn z s ≤ limit = rw (← t) at (l .terms-few) in
-        rw (lt-ltb 0 w (l .wires-some), le-leb w 4096 (l .wires-few), le-leb (z .linears) 1024 a, le-leb (z .ands + z .imuls + z .bmuls + z .zeros) 1024 b, le-leb (termsIn z s) limit c))
+      let t = terms-model z s y in (
+        λ e.
+            let f1 = else-second (unless (ltb 0 w) 6) _ e in
+            let f2 = else-second (unless (leb w 4096) 6) _ f1 in
+            let f3 = else-second (unless (leb (z .linears) 1024) 6) _ f2 in
+            let f4 = else-second (unless (leb (z .ands + z .imuls + z .bmuls + z .zeros) 1024) 6) _ f3 in
+            record {
+              wires-some = ltb-true _ _ (unless-holds (ltb 0 w) 6 (omega arith) (else-first (unless (ltb 0 w) 6) _ e));
+              wires-few = leb-true _ _ (unless-holds (leb w 4096) 6 (omega arith) (else-first (unless (leb w 4096) 6) _ f1));
+              definitions-few = rw n (leb-true (z .linears) 1024 (unless-holds (leb (z .linears) 1024) 6 (omega arith) (else-first (unless (leb (z .linears) 1024) 6) _ f2)));
+              others-few = rw others (leb-true (z .ands + z .imuls + z .bmuls + z .zeros) 1024 (unless-holds _ 6 (omega arith) (else-first (unless (leb (z .ands + z .imuls + z .bmuls + z .zeros) 1024) 6) _ f3)));
+              terms-few = rw (← t) (leb-true (termsIn z s) limit (unless-holds (leb (termsIn z s) limit) 6 (omega arith) f4));
+            },
+        λ l.
+            let a : z .linears ≤ 1024 = rw n at (l .definitions-few) in
+            let b : z .ands + z .imuls + z .bmuls + z .zeros ≤ 1024 = rw others at (l .others-few) in
+            let c : termsIn z s ≤ limit = rw (← t) at (l .terms-few) in
+            rw (lt-ltb 0 w (l .wires-some), le-leb w 4096 (l .wires-few), le-leb (z .linears) 1024 a, le-leb (z .ands + z .imuls + z .bmuls + z .zeros) 1024 b, le-leb (termsIn z s) limit c),
+      )
 
 pub full-only : (Q : ℕ → Type 0) (limit : ℕ) (z : Sizes) (n : ℕ) → Q 0 → Q 6 → Q (fullFault limit z n)
 unfolding fullFault

@@ -52,12 +52,14 @@ module _ (p : System) where
 
   pub proper-right : definitionFault p ≡ 0 ↔ Proper
   unfolding definitionFault
-  proper-right =
-      (λ e. let f = else-second d8 (orElse d9 d10) e in
-        (fulfils (twice p) 8 _ (once-right (p .linears)) (omega arith) (else-first d8 (orElse d9 d10) e),
-         fulfils (empty p) 9 _ (not-empty-right p) (omega arith) (else-first d9 d10 f),
-         fulfils (double p) 10 _ (single-right p) (omega arith) (else-second d9 d10 f)),
-       λ y. rw (once-right (p .linears) .1 (y .0), not-empty-right p .1 (y .1), single-right p .1 (y .2)))
+  proper-right = (
+    λ e. let f = else-second d8 (orElse d9 d10) e in (
+      fulfils (twice p) 8 _ (once-right (p .linears)) (omega arith) (else-first d8 (orElse d9 d10) e),
+      fulfils (empty p) 9 _ (not-empty-right p) (omega arith) (else-first d9 d10 f),
+      fulfils (double p) 10 _ (single-right p) (omega arith) (else-second d9 d10 f),
+    ),
+    λ y. rw (once-right (p .linears) .1 (y .0), not-empty-right p .1 (y .1), single-right p .1 (y .2)),
+  )
 
   pub is-8 : definitionFault p ≡ 8 ↔ (Once (p .linears) → ⊥)
   unfolding definitionFault
@@ -65,33 +67,40 @@ module _ (p : System) where
     where
       later : orElse d9 d10 ≡ 8 → ⊥
       later = else-only (λ n. n ≡ 8 → ⊥) d9 d10 (unless-only (λ n. n ≡ 8 → ⊥) (not (empty p)) 9 (λ e. omega (arith, e)) (λ e. omega (arith, e)))
-        (unless-only (λ n. n ≡ 8 → ⊥) (not (double p)) 10 (λ e. omega (arith, e)) (λ e. omega (arith, e)))
+          (unless-only (λ n. n ≡ 8 → ⊥) (not (double p)) 10 (λ e. omega (arith, e)) (λ e. omega (arith, e)))
 
   pub is-9 : definitionFault p ≡ 9 ↔ Once (p .linears) × (NotEmpty p → ⊥)
   unfolding definitionFault
-  is-9 = (λ e. (first e, λ h. last (else-is d8 (orElse d9 d10) 9 e (λ z. omega (arith, z))) h),
-      λ y. rw (passed (twice p) 8 _ (once-right (p .linears)) (y .0), given (empty p) 9 _ (not-empty-right p) (y .1)))
+  is-9 = (
+    λ e. (first e, λ h. last (else-is d8 (orElse d9 d10) 9 e (λ z. omega (arith, z))) h),
+    λ y. rw (passed (twice p) 8 _ (once-right (p .linears)) (y .0), given (empty p) 9 _ (not-empty-right p) (y .1)),
+  )
     where
       not-9 : d8 ≡ 9 → ⊥
       not-9 = unless-only (λ n. n ≡ 9 → ⊥) (not (twice p)) 8 (λ e. omega (arith, e)) (λ e. omega (arith, e))
+
       first : orElse d8 (orElse d9 d10) ≡ 9 → Once (p .linears)
       first e = go (else-is d8 (orElse d9 d10) 9 e (λ z. omega (arith, z)))
         where
           go : (d8 ≡ 9) ⊎ ((d8 ≡ 0) × (orElse d9 d10 ≡ 9)) → Once (p .linears)
           go (inl x) = absurd (not-9 x)
           go (inr x) = fulfils (twice p) 8 _ (once-right (p .linears)) (omega arith) (x .0)
+
       last : (d8 ≡ 9) ⊎ ((d8 ≡ 0) × (orElse d9 d10 ≡ 9)) → NotEmpty p → ⊥
       last (inl x) h = not-9 x
       last (inr x) h = unless-only (λ n. n ≡ 9 → ⊥) (not (double p)) 10 (λ e. omega (arith, e)) (λ e. omega (arith, e)) (rw (passed (empty p) 9 _ (not-empty-right p) h) at (x .1))
 
   pub is-10 : definitionFault p ≡ 10 ↔ Once (p .linears) × NotEmpty p × (Single p → ⊥)
   unfolding definitionFault
-  is-10 = (λ e. go (else-is d8 (orElse d9 d10) 10 e (λ z. omega (arith, z))),
-      λ y. rw (passed (twice p) 8 _ (once-right (p .linears)) (y .0), passed (empty p) 9 _ (not-empty-right p) (y .1), given (double p) 10 _ (single-right p) (y .2)))
+  is-10 = (
+    λ e. go (else-is d8 (orElse d9 d10) 10 e (λ z. omega (arith, z))),
+    λ y. rw (passed (twice p) 8 _ (once-right (p .linears)) (y .0), passed (empty p) 9 _ (not-empty-right p) (y .1), given (double p) 10 _ (single-right p) (y .2)),
+  )
     where
       deeper : (d9 ≡ 10) ⊎ ((d9 ≡ 0) × (d10 ≡ 10)) → NotEmpty p × (Single p → ⊥)
       deeper (inl x) = absurd (unless-only (λ n. n ≡ 10 → ⊥) (not (empty p)) 9 (λ e. omega (arith, e)) (λ e. omega (arith, e)) x)
       deeper (inr x) = (fulfils (empty p) 9 _ (not-empty-right p) (omega arith) (x .0), λ h. let e = passed (double p) 10 _ (single-right p) h in omega (arith, e, x .1))
+
       go : (d8 ≡ 10) ⊎ ((d8 ≡ 0) × (orElse d9 d10 ≡ 10)) → Once (p .linears) × NotEmpty p × (Single p → ⊥)
       go (inl x) = absurd (unless-only (λ n. n ≡ 10 → ⊥) (not (twice p)) 8 (λ e. omega (arith, e)) (λ e. omega (arith, e)) x)
       go (inr x) =
@@ -114,9 +123,10 @@ module _ (limit : ℕ) (z : Sizes) (s : Stores) where
 
   pub standing-right : memoryFault limit z s ≡ 0 ↔ Standing z s limit
   unfolding memoryFault
-  standing-right =
-      (λ e. let y = places-sound z s (else-first a b e) in (y, full-right limit z s (y .0) .0 (else-second a b e)),
-       λ y. rw (sound-places z s (y .0), full-right limit z s (y .0 .0) .1 (y .1)))
+  standing-right = (
+    λ e. let y = places-sound z s (else-first a b e) in (y, full-right limit z s (y .0) .0 (else-second a b e)),
+    λ y. rw (sound-places z s (y .0), full-right limit z s (y .0 .0) .1 (y .1)),
+  )
 
   -- a number that neither the counts nor the definitions give comes from the places
   from-places : (n : ℕ) → 0 < n → n < 6 → faultOf limit z s ≡ n → a ≡ n
@@ -125,11 +135,14 @@ module _ (limit : ℕ) (z : Sizes) (s : Stores) where
     where
       Far : ℕ → Type 0
       Far m = m ≡ n → ⊥
+
       none : Far 0
       none k = omega (arith, k, lo)
+
       inner : (a ≡ n) ⊎ ((a ≡ 0) × (b ≡ n)) → a ≡ n
       inner (inl x) = x
       inner (inr x) = absurd (full-only Far limit z (termsIn z s) none (λ k. omega (arith, k, hi)) (x .1))
+
       outer : (orElse a b ≡ n) ⊎ ((orElse a b ≡ 0) × (definitionFault p ≡ n)) → a ≡ n
       outer (inl x) = inner (else-is a b n x (λ k. omega (arith, k, lo)))
       outer (inr x) = absurd (definition-only p Far none (λ k. omega (arith, k, hi)) (λ k. omega (arith, k, hi)) (λ k. omega (arith, k, hi)) (x .1))
@@ -141,6 +154,7 @@ module _ (limit : ℕ) (z : Sizes) (s : Stores) where
     where
       Far : ℕ → Type 0
       Far m = m ≡ n → ⊥
+
       outer : (memoryFault limit z s ≡ n) ⊎ ((memoryFault limit z s ≡ 0) × (definitionFault p ≡ n)) → Standing z s limit × (definitionFault p ≡ n)
       outer (inl x) = absurd (memory-only Far (λ k. omega (arith, k, hi)) (λ k. omega (arith, k, hi)) (λ k. omega (arith, k, hi)) (λ k. omega (arith, k, hi)) (λ k. omega (arith, k, hi)) x)
       outer (inr x) = (standing-right .0 (x .0), x .1)
@@ -155,12 +169,15 @@ module _ (limit : ℕ) (z : Sizes) (s : Stores) where
     where
       none : (n : ℕ) → Sound z s → a ≡ n → (n ≡ 0 → ⊥) → ⊥
       none n y e h = h (sym e ∙ sound-places z s y)
+
       there : (faultOf limit z s ≡ 3) ⊎ ((faultOf limit z s ≡ 4) ⊎ (faultOf limit z s ≡ 5)) → Sound z s → ⊥
       there (inl e) y = none 3 y (from-places 3 (omega arith) (omega arith) e) (λ k. omega (arith, k))
       there (inr (inl e)) y = none 4 y (from-places 4 (omega arith) (omega arith) e) (λ k. omega (arith, k))
       there (inr (inr e)) y = none 5 y (from-places 5 (omega arith) (omega arith) e) (λ k. omega (arith, k))
+
       up : (n : ℕ) → a ≡ n → (n ≡ 0 → ⊥) → orElse (orElse a b) (definitionFault p) ≡ n
       up n e h = let k : a ≡ 0 → ⊥ = λ q. h (sym e ∙ q) in rw (else-some a b k, else-some a (definitionFault p) k) e
+
       back : (Sound z s → ⊥) → (a ≡ 0) ⊎ ((a ≡ 3) ⊎ ((a ≡ 4) ⊎ (a ≡ 5))) → (orElse (orElse a b) (definitionFault p) ≡ 3) ⊎ ((orElse (orElse a b) (definitionFault p) ≡ 4) ⊎ (orElse (orElse a b) (definitionFault p) ≡ 5))
       back h (inl e) = absurd (h (places-sound z s e))
       back h (inr (inl e)) = inl (up 3 e (λ k. omega (arith, k)))
@@ -174,18 +191,21 @@ module _ (limit : ℕ) (z : Sizes) (s : Stores) where
       inner : (a ≡ 6) ⊎ ((a ≡ 0) × (b ≡ 6)) → Sound z s × (Limits limit p → ⊥)
       inner (inl x) = absurd (only-345 z s (λ n. n ≡ 6 → ⊥) (λ k. omega (arith, k)) (λ k. omega (arith, k)) (λ k. omega (arith, k)) (λ k. omega (arith, k)) x)
       inner (inr x) = let y = places-sound z s (x .0) in (y, λ l. let e = full-right limit z s (y .0) .1 l in omega (arith, e, x .1))
+
       outer : (orElse a b ≡ 6) ⊎ ((orElse a b ≡ 0) × (definitionFault p ≡ 6)) → Sound z s × (Limits limit p → ⊥)
       outer (inl x) = inner (else-is a b 6 x (λ k. omega (arith, k)))
       outer (inr x) = absurd (definition-only p (λ n. n ≡ 6 → ⊥) (λ k. omega (arith, k)) (λ k. omega (arith, k)) (λ k. omega (arith, k)) (λ k. omega (arith, k)) (x .1))
+
       back : Sound z s → (Limits limit p → ⊥) → (b ≡ 0) ⊎ (b ≡ 6) → orElse (orElse a b) (definitionFault p) ≡ 6
       back y h (inl e) = absurd (h (full-right limit z s (y .0) .0 e))
       back y h (inr e) = rw (sound-places z s y, e)
 
   none-is : faultOf limit z s ≡ 0 ↔ Standing z s limit × Proper p
   unfolding faultOf
-  none-is =
-      (λ e. (standing-right .0 (else-first (memoryFault limit z s) _ e), proper-right p .0 (else-second (memoryFault limit z s) _ e)),
-       λ y. rw (standing-right .1 (y .0)) (proper-right p .1 (y .1)))
+  none-is = (
+    λ e. (standing-right .0 (else-first (memoryFault limit z s) _ e), proper-right p .0 (else-second (memoryFault limit z s) _ e)),
+    λ y. rw (standing-right .1 (y .0)) (proper-right p .1 (y .1)),
+  )
 
   -- the number that `check_all` gives
   pub explained : Explained z s limit (faultOf limit z s)

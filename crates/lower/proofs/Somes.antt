@@ -117,7 +117,6 @@ module _ (met m : List ℕ) (i x : ℕ) (e : drop i m ≡ x ∷ drop (i + 1) m) 
           mixed false true false d = refl
           mixed false false c d = refl
 
-
 pub again-none : (n : ℕ) (l : List ℕ) → again (replicate n 0) l ≡ repeated l
 again-none n l = rw (all-none (marked (replicate n 0)) l (every l))
   where

@@ -49,9 +49,10 @@ module _ (w : ℕ) (t : Term) (e : termFault w t ≡ 0) where
   term-shifted : ShiftsOf t
   unfolding termFault
   term-shifted =
-      let f = else-second (unless (ltb (t .wire) w) 5) _ e in
-      (unless-holds (validNumber (t .inner)) 4 (omega arith) (else-first (unless (validNumber (t .inner)) 4) _ f),
-       unless-holds (validNumber (t .outer)) 4 (omega arith) (else-second (unless (validNumber (t .inner)) 4) _ f))
+      let f = else-second (unless (ltb (t .wire) w) 5) _ e in (
+        unless-holds (validNumber (t .inner)) 4 (omega arith) (else-first (unless (validNumber (t .inner)) 4) _ f),
+        unless-holds (validNumber (t .outer)) 4 (omega arith) (else-second (unless (validNumber (t .inner)) 4) _ f),
+      )
 
 -- ---- one list
 
@@ -135,9 +136,9 @@ module _ (z : Sizes) (s : Stores) where
         → Q (pairsFault (z .wires) (s .old) (s .new) (take (z .linears) (s .dsts)) (take (z .linears) (s .rhss)))
     in-pairs a b =
         let ds = subst (λ l. All (λ (d : ℕ). Q (unless (ltb d (z .wires)) 5)) l) (destinations-model z s a b)
-          (all-map (λ (d : ℕ). Q (unless (ltb d (z .wires)) 5)) (λ (d : Definition). d .dst) (p .linears) dests) in
+        (all-map (λ (d : ℕ). Q (unless (ltb d (z .wires)) 5)) (λ (d : Definition). d .dst) (p .linears) dests) in
         let hs = operands (take (z .linears) (s .rhss)) (definitionOperands p) (definitions-model z s a b)
-          (all-right _ (rowOperands p) (definitionOperands p) by-operand) (λ y. all-right _ rows (take (z .linears) (s .rhss)) (y .operands-there)) in
+        (all-right _ (rowOperands p) (definitionOperands p) by-operand) (λ y. all-right _ rows (take (z .linears) (s .rhss)) (y .operands-there)) in
         pairs-only Q none (z .wires) (s .old) (s .new) (take (z .linears) (s .dsts)) (take (z .linears) (s .rhss)) ds hs
 
     pub places-only : Q (placesFault z s)
@@ -213,7 +214,8 @@ module _ (z : Sizes) (s : Stores) where
   places-sound e =
       let y = checked z s e in let ts = terms-none y in
       let ds = all-unmap (λ (d : ℕ). d < z .wires) (λ (d : Definition). d .dst) (p .linears)
-        (subst (λ l. All (λ (d : ℕ). d < z .wires) l) (sym (destinations-model z s (y .dsts-in) (y .rhss-in))) (y .dsts-sound)) in
-      (placed z s y,
-       record { terms-named = all-imp (λ t k. term-named (z .wires) t k) (termsOf p) ts; destinations-named = ds },
-       all-imp (λ t k. term-shifted (z .wires) t k) (termsOf p) ts)
+      (subst (λ l. All (λ (d : ℕ). d < z .wires) l) (sym (destinations-model z s (y .dsts-in) (y .rhss-in))) (y .dsts-sound)) in (
+        placed z s y,
+        record { terms-named = all-imp (λ t k. term-named (z .wires) t k) (termsOf p) ts; destinations-named = ds },
+        all-imp (λ t k. term-shifted (z .wires) t k) (termsOf p) ts,
+      )

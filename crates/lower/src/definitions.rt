@@ -100,8 +100,7 @@ fn operand_double<'a>(
     requires { ⌜ Stands (now old) (now new) h ⌝ }
     ensures { λ r. ⌜ r ≡ handleDouble (now (old .entry)) (now (new .entry)) (now (defined .entry)) definition h ⌝ }
 {
-    let o = WireOperand::from_number(h);
-    terms_double(operand::valid::as_slice(o, old, new), defined, definition)
+    terms_double(crate::operand_terms(old, new, h), defined, definition)
 }
 
 fn operands_double<'a>(

@@ -1,12 +1,14 @@
 // The five lists of a constraint system in lent stores. Follows frontend/src/lower/mod.rs; the checks are added.
 ghost use mathlib.Core.Path.{_≡_};
 ghost use Prim.Native.Nat.{_≤_};
-ghost use Rattle.lower.specs.Stores.{stores, systemOf};
+ghost use Rattle.operand.specs.Numbers.{operandAt, termsAt};
+ghost use Rattle.lower.specs.Stores.{stores, Stands, systemOf};
 ghost use Rattle.lower.specs.Faults.{memoryFault, placesFault, definitionFault, faultOf};
+use operand::WireOperand;
 
-pub mod definitions;
-pub mod full;
-pub mod places;
+mod definitions;
+mod full;
+mod places;
 
 // The numbers of refusals.
 pub const SHAPE: u8 = 3;
@@ -44,6 +46,14 @@ pub struct Sizes {
     pub bmuls: usize,
     pub zeros: usize,
     pub linears: usize,
+}
+
+// The terms of the operand that stands in a list as the number `h`, as a part of whichever store holds them.
+pub fn operand_terms<'a>(old: &'a [u64], new: &'a [u64], h: u64) -> &'a [u64]
+    requires { ⌜ Stands (now old) (now new) h ⌝ }
+    ensures { λ r. ⌜ now r ≡ termsAt (now (old .entry)) (now (new .entry)) (operandAt h) ⌝ }
+{
+    operand::valid::as_slice(WireOperand::from_number(h), old, new)
 }
 
 // Lists in tag order: 3, 4 and 5 as they are met.

@@ -52,11 +52,10 @@ fn terms_fault(ts: &[u64], wires: usize) -> u8
 pub fn operand_fault<'a>(old: &'a [u64], new: &'a [u64], h: u64, wires: usize) -> u8
     ensures { λ r. ⌜ r ≡ operandFault wires (now (old .entry)) (now (new .entry)) h ⌝ }
 {
-    let o = WireOperand::from_number(h);
-    if !o.is_within(old, new) {
+    if !WireOperand::from_number(h).is_within(old, new) {
         return crate::SHAPE;
     }
-    terms_fault(operand::valid::as_slice(o, old, new), wires)
+    terms_fault(crate::operand_terms(old, new, h), wires)
 }
 
 fn operands_fault<'a>(old: &'a [u64], new: &'a [u64], hs: &[u64], wires: usize) -> u8

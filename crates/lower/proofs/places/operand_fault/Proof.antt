@@ -1,8 +1,6 @@
 -- Whether it lies in its store, then its terms. Assumes nothing.
 use Rattle.lower.specs.Faults.{operandFault, firstFault, termFault}
-use Rattle.operand.specs.Numbers.{operandAt, operandOf, within, termsAt, termOf}
-use Rattle.operand.specs.declared.WireOperand.{WireOperand}
-use lib.ListN.{length}
+use Rattle.operand.specs.Numbers.{operandAt, operandOf, within, termOf}
 use borrow.Author.Tests.{leb-true, not-true, not-false}
 use mathlib.Core.List.{map}
 use mathlib.Core.Bool.{Bool, true, false}
@@ -22,8 +20,8 @@ unfolding operandFault
 returns c = let s = c .before .before .before .before .before in
     let e : within (s .args .old .now) (s .args .new .now) (operandAt (s .args .h)) ≡ false = ap (within (s .args .old .now) (s .args .new .now)) (sym (c .before .before .from-number .ensures)) ∙ sym (c .before .is-within .ensures) ∙ not-true _ (c .if1 .taken) in rw e
 
-as-slice-requires : tie.Need-as-slice-requires
-as-slice-requires c κs = leb-true _ _ (sym (c .before .is-within .ensures) ∙ not-false _ (c .if1 .left))
+operand-terms-requires : tie.Need-operand-terms-requires
+operand-terms-requires c κs = let s = c .before .before .before .before .before in leb-true _ _ (ap (within (s .args .old .now) (s .args .new .now)) (sym (c .before .before .from-number .ensures)) ∙ sym (c .before .is-within .ensures) ∙ not-false _ (c .if1 .left))
 
 terms-fault-requires : tie.Need-terms-fault-requires
 terms-fault-requires c κs = search needs
@@ -32,7 +30,7 @@ returns-2 : tie.Need-returns-2
 unfolding operandFault operandOf
 returns-2 c = let s = c .before .before .before .before .before .before .before in let u = s .args .old .now in let v = s .args .new .now in
     let e : within u v (operandAt (s .args .h)) ≡ true = ap (within u v) (sym (c .before .before .before .before .from-number .ensures)) ∙ sym (c .before .before .before .is-within .ensures) ∙ not-false _ (c .before .before .if1 .left) in
-    rw e (c .terms-fault .ensures ∙ ap (λ l. firstFault (termFault (s .args .wires)) (map termOf l)) (c .before .as-slice .ensures ∙ ap (termsAt u v) (c .before .before .before .before .from-number .ensures)))
+    rw e (c .terms-fault .ensures ∙ ap (λ l. firstFault (termFault (s .args .wires)) (map termOf l)) (c .before .operand-terms .ensures))
 
 pub operand-fault-spec : {M : Type 1} → statement M
 operand-fault-spec =
@@ -41,6 +39,6 @@ operand-fault-spec =
     from-number-requires
     is-within-requires
     returns
-    as-slice-requires
+    operand-terms-requires
     terms-fault-requires
     returns-2)
