@@ -1,31 +1,40 @@
 -- What each number says, and that a system without fault and circle is accepted. Assumes nothing.
-use mathlib.Core.Path.{_≡_, refl, sym, ap, subst, _∙_}
-use mathlib.Core.Logic.{_↔_, _⊎_, inl, inr}
-use mathlib.Core.List.{List, [], _∷_, _++_, map}
-use mathlib.Core.Bool.{Bool, true, false, not, _&&_, _||_}
+use mathlib.Core.Path.{_≡_, refl, sym, _∙_}
+use mathlib.Core.Logic.{_↔_}
+use mathlib.Core.List.{List, [], _∷_}
+use mathlib.Core.Bool.{Bool, true, false, cond, not, _&&_, _||_}
+use mathlib.Core.Option.{none, some}
 use Prim.Native.Nat.{ℕ, zero, suc, _+_, _*_, _≤_, _<_}
 use native.Mathlib.Omega.{arith}
 use native.Mathlib.Nat.{mul-suc}
 use lib.ListN.{length, take, drop, length-map, length-drop}
 use lib.Seq.{length-take-le}
 use lib.Dec.{ltb, leb, eqb}
-use borrow.Author.Tests.{le-leb, leb-true, lt-ltb, ltb-true, ne-eqb, eqb-false, not-true, not-false}
+use borrow.Author.Tests.{le-leb, leb-true, lt-ltb, ltb-true, ne-eqb, eqb-false, not-false}
 use Rattle.operand.specs.Numbers.{Term, Operand, operandOf}
 use Rattle.lower.specs.declared.Sizes.{Sizes}
-use Rattle.lower.specs.Lists.{All, done, more, someOf, joined}
-use Rattle.lower.specs.Model.{Row, Definition, System, definitionOperands, termsOf, destinations, defines}
-use Rattle.lower.specs.Accepted.{Shaped, Named, Shifted, Limits, Once, NotEmpty, Single, NoCircle, Accepted, isIdentity}
-use Rattle.lower.specs.Stores.{Stores, chunks, rowsOf, systemOf, Placed}
-use Rattle.lower.specs.Faults.{orElse, unless, placesFault, fullFault, termsIn, memoryFault, twice, repeated, empty, isEmpty, double, isDouble, definitionFault, faultOf}
-use Rattle.lower.specs.Explained.{Sound, Standing, Explained}
-use Rattle.lower.proofs.Firsts.{else-some, else-none, else-first, else-second, else-only, unless-holds, unless-none, unless-only}
+use Rattle.lower.specs.Lists.{All, done, more, joined}
+use Rattle.lower.specs.Model.{Row, Definition, System, definitionOperands, termsOf, destinations, defines, definitionOf}
+use Rattle.lower.specs.Accepted.{Limits, Once, NotEmpty, Single, isIdentity}
+use Rattle.lower.specs.Stores.{Stores, rowsOf, systemOf, Placed}
+use Rattle.lower.specs.Faults.{unless, fullFault, termsIn, repeated, empty, isEmpty, double, isDouble}
+use Rattle.lower.proofs.Firsts.{else-first, else-second, else-only, unless-holds, unless-only}
 use Rattle.lower.proofs.Laws.{rows-length, linears-length, terms-model, all-imp}
-use Rattle.lower.proofs.Alls.{all-every, all-unmap}
+use Rattle.lower.proofs.Alls.{all-unmap}
 use Rattle.lower.proofs.Laws.{all-map}
 use Rattle.lower.proofs.Somes.{neither, none-all, all-none}
-use Rattle.lower.proofs.Sounds.{only-345, not-3, not-4, not-5, sound-places, places-sound}
 
 -- ---- 8, 9 and 10 as tests
+
+-- a wire is defined just when there is a right side that defines it
+pub defines-none : (ds : List Definition) (w : ℕ) → defines ds w ≡ false ↔ definitionOf ds w ≡ none
+defines-none [] w = (λ e. refl, λ e. refl)
+defines-none (d ∷ ds) w = go (eqb w (d .dst)) (defines-none ds w)
+  where
+    go : (b : Bool) → (defines ds w ≡ false ↔ definitionOf ds w ≡ none)
+        → (b || defines ds w) ≡ false ↔ cond b (some (d .rhs)) (definitionOf ds w) ≡ none
+    go true k = (λ e. absurd (let z : _≡_ {A = ℕ} 0 1 = cc in omega arith), λ e. absurd (let z : _≡_ {A = ℕ} 0 1 = cc in omega arith))
+    go false k = k
 
 pub once-right : (ds : List Definition) → repeated (destinations ds) ≡ false ↔ Once ds
 once-right [] = (λ e. tt, λ o. refl)

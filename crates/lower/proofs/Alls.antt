@@ -1,5 +1,5 @@
 -- What holds of each element of lists that are joined, mapped or put together. Assumes nothing.
-use mathlib.Core.List.{List, [], _∷_, _++_, map}
+use mathlib.Core.List.{List, [], _∷_, map}
 use Rattle.lower.specs.Lists.{All, done, more, joined}
 use Rattle.lower.proofs.Laws.{all-left, all-right, all-both}
 

@@ -1,15 +1,15 @@
 -- The whole system has a doubled term where some list has, each looked at by the table of defined wires. Assumes nothing.
 use mathlib.Core.Path.{_≡_, refl, sym, ap, _∙_}
 use mathlib.Core.List.{List, [], _∷_, _++_, map, append-assoc}
-use mathlib.Core.Bool.{Bool, true, false, not, _&&_, _||_}
+use mathlib.Core.Bool.{Bool, true, false, _&&_, _||_}
 use Prim.Native.Nat.{ℕ, _+_, _*_, _≤_, _<_}
 use native.Mathlib.Omega.{arith}
 use lib.ListN.{length, take, replicate, length-replicate}
 use lib.Dec.{eqb}
 use Rattle.operand.specs.Numbers.{Term, Operand, operandOf}
 use Rattle.lower.specs.declared.Sizes.{Sizes}
-use Rattle.lower.specs.Lists.{All, done, more, someOf, joined}
-use Rattle.lower.specs.Model.{System, rowOperands, definitionOperands, destinations, defines}
+use Rattle.lower.specs.Lists.{All, someOf, joined}
+use Rattle.lower.specs.Model.{System, rowOperands, definitionOperands, defines}
 use Rattle.lower.specs.Stores.{Stores, systemOf, rowHandles}
 use Rattle.lower.specs.Faults.{isDouble, double, twice, repeated, empty, isEmpty, lengthOf}
 use Rattle.lower.specs.Tables.{marks, marked, doubleIn, handleDouble, listsDouble}

@@ -1,18 +1,18 @@
 -- The number given says what is wrong, and what is wrong gives the number. Assumes nothing.
-use mathlib.Core.Path.{_≡_, refl, sym, ap, _∙_}
+use mathlib.Core.Path.{_≡_, refl, sym, _∙_}
 use mathlib.Core.Logic.{_↔_, _⊎_, inl, inr}
 use mathlib.Core.Bool.{Bool, true, false, not}
-use Prim.Native.Nat.{ℕ, zero, suc, _*_, _≤_, _<_}
+use Prim.Native.Nat.{ℕ, zero, suc, _*_, _<_}
 use native.Mathlib.Omega.{arith}
-use borrow.Author.Tests.{not-true, not-false}
+use borrow.Author.Tests.{not-true}
 use Rattle.operand.specs.Numbers.{operandOf}
 use Rattle.lower.specs.declared.Sizes.{Sizes}
 use Rattle.lower.specs.Model.{System}
-use Rattle.lower.specs.Accepted.{Shaped, Named, Shifted, Limits, Once, NotEmpty, Single, NoCircle, Accepted}
+use Rattle.lower.specs.Accepted.{Limits, Once, NotEmpty, Single, NoCircle, Accepted}
 use Rattle.lower.specs.Stores.{Stores, systemOf, Placed}
 use Rattle.lower.specs.Faults.{orElse, unless, placesFault, fullFault, termsIn, memoryFault, twice, empty, double, definitionFault, faultOf}
 use Rattle.lower.specs.Explained.{Sound, Standing, Explained}
-use Rattle.lower.proofs.Firsts.{else-some, else-none, else-first, else-second, else-only, unless-holds, unless-none, unless-only}
+use Rattle.lower.proofs.Firsts.{else-some, else-first, else-second, else-only, unless-holds, unless-only}
 use Rattle.lower.proofs.Sounds.{only-345, not-3, not-4, not-5, sound-places, places-sound}
 use Rattle.lower.proofs.Accepts.{once-right, not-empty-right, single-right, shaped, full-right, full-only}
 

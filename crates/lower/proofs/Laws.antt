@@ -7,10 +7,10 @@ use native.Mathlib.Omega.{arith}
 use native.Mathlib.Nat.{mul-zero, mul-suc}
 use lib.ListN.{length, take, drop, getD, set, length-drop, length-map, length-append, List·getD-map}
 use lib.Seq.{length-take-le, getD-take, getD-drop, drop-drop, take-add, take-take, take-set-lt, take-set-le, drop-set-lt, drop-set-add, sets, sets-eq, take-at, drop-at}
-use Rattle.operand.specs.Numbers.{Term, Operand, termOf, operandAt, storeFor, termsAt, operandOf}
+use Rattle.operand.specs.Numbers.{Operand, termOf, operandAt, storeFor, termsAt, operandOf}
 use Rattle.lower.specs.declared.Sizes.{Sizes}
 use Rattle.lower.specs.Lists.{All, done, more, joined, sumOf}
-use Rattle.lower.specs.Model.{Row, Definition, System, rowOperands, definitionOperands, operandsOf, termsOf, destinations}
+use Rattle.lower.specs.Model.{Row, Definition, rowOperands, definitionOperands, operandsOf, termsOf, destinations}
 use Rattle.lower.specs.Stores.{Stores, stores, chunks, rowsOf, definitionsOf, systemOf, rowHandles, handlesOf, handlesIn, Stands, Placed}
 use Rattle.lower.specs.Faults.{lengthOf, termsIn}
 

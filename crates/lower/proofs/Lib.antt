@@ -8,3 +8,4 @@ pub mod Alls
 pub mod Sounds
 pub mod Accepts
 pub mod Explains
+pub mod Samples

@@ -1,9 +1,9 @@
 -- 3, 4 and 5: what holds of each fault holds of the first; so none is given just when all is sound. Assumes nothing.
-use mathlib.Core.Path.{_≡_, refl, sym, ap, subst, _∙_}
+use mathlib.Core.Path.{_≡_, refl, sym, subst}
 use mathlib.Core.Logic.{_⊎_, inl, inr}
-use mathlib.Core.List.{List, [], _∷_, _++_, map}
+use mathlib.Core.List.{List, [], _∷_, map}
 use mathlib.Core.Bool.{Bool, true, false}
-use Prim.Native.Nat.{ℕ, _+_, _*_, _≤_, _<_}
+use Prim.Native.Nat.{ℕ, _*_, _≤_, _<_}
 use native.Mathlib.Omega.{arith}
 use lib.ListN.{length, take}
 use lib.Dec.{ltb, leb}
@@ -11,13 +11,13 @@ use borrow.Author.Tests.{le-leb, leb-true, lt-ltb, ltb-true}
 use Rattle.shift.specs.Shifts.{validNumber}
 use Rattle.operand.specs.Numbers.{Term, Operand, operandAt, operandOf, within}
 use Rattle.lower.specs.declared.Sizes.{Sizes}
-use Rattle.lower.specs.Lists.{All, done, more, joined}
-use Rattle.lower.specs.Model.{Definition, System, rowOperands, definitionOperands, operandsOf, termsOf, destinations}
+use Rattle.lower.specs.Lists.{All, more}
+use Rattle.lower.specs.Model.{Definition, System, rowOperands, definitionOperands, operandsOf, termsOf}
 use Rattle.lower.specs.Accepted.{Named, Shifted, ShiftsOf}
 use Rattle.lower.specs.Stores.{Stores, systemOf, rowHandles, handlesIn, Stands, Placed}
 use Rattle.lower.specs.Explained.{Sound}
 use Rattle.lower.specs.Faults.{orElse, unless, firstFault, termFault, operandFault, rowsFault, pairsFault, definitionsFault, placesFault}
-use Rattle.lower.proofs.Firsts.{else-first, else-second, else-only, unless-holds, unless-none, unless-only, first-none, first-only}
+use Rattle.lower.proofs.Firsts.{else-first, else-second, else-only, unless-holds, unless-only, first-none, first-only}
 use Rattle.lower.proofs.Laws.{all-left, all-right, all-imp, all-map, rows-model, definitions-model, destinations-model, operands-model}
 use Rattle.lower.proofs.Alls.{all-every, all-zip, all-join, all-unjoin, all-unmap}
 use Rattle.lower.proofs.Checks.{Checked, checked, placed, handles-sound, operand-sound}

@@ -10,7 +10,6 @@ use mathlib.Core.Path.{_≡_}
 use mathlib.Core.Logic.{_↔_, _⊎_}
 use Prim.Native.Nat.{ℕ}
 use Rattle.lower.specs.declared.Sizes.{Sizes}
-use Rattle.lower.specs.Model.{System}
 use Rattle.lower.specs.Accepted.{Named, Shifted, Limits, Once, NotEmpty, Single}
 use Rattle.lower.specs.Stores.{Stores, systemOf, Placed}
 

@@ -16,7 +16,7 @@
 -- Assumes nothing.
 use Prim.Native.Nat.{ℕ, zero, suc, _+_, _*_}
 use mathlib.Core.Bool.{Bool, true, false, not, _&&_, _||_}
-use mathlib.Core.List.{List, [], _∷_, _++_, map}
+use mathlib.Core.List.{List, [], _∷_}
 use lib.Dec.{ltb, leb, eqb}
 use lib.ListN.{length, take}
 use Rattle.word.specs.Answers.{SHIFT}
@@ -25,7 +25,7 @@ use Rattle.operand.specs.Terms.{DOUBLE}
 use Rattle.operand.specs.Numbers.{Term, Operand, operandAt, operandOf, within}
 use Rattle.lower.specs.declared.Sizes.{Sizes}
 use Rattle.lower.specs.Lists.{someOf, joined, sumOf}
-use Rattle.lower.specs.Model.{Definition, System, definitionOperands, termsOf, destinations, defines}
+use Rattle.lower.specs.Model.{System, definitionOperands, termsOf, destinations, defines}
 use Rattle.lower.specs.Accepted.{isIdentity}
 use Rattle.lower.specs.Stores.{Stores, handlesOf, systemOf}
 

@@ -4,7 +4,7 @@ ghost use Prim.Native.Nat.{ℕ, _<_, _≤_, _*_};
 ghost use lib.ListN.{length, take};
 ghost use lib.Dec.{eqb};
 ghost use mathlib.Core.List.{map};
-ghost use Rattle.operand.specs.Numbers.{termOf, operandOf};
+ghost use Rattle.operand.specs.Numbers.{termOf};
 ghost use Rattle.lower.specs.Lists.{All, someOf};
 ghost use Rattle.lower.specs.Stores.{stores, Stands, systemOf};
 ghost use Rattle.lower.specs.Faults.{lengthOf, repeated, placesFault, double};

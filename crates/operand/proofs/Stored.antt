@@ -1,7 +1,7 @@
 -- A term and an operand are one number each, and only one. Assumes nothing.
 use mathlib.Core.Path.{_≡_, refl, sym, ap, _∙_}
 use mathlib.Core.Bool.{Bool, true, false, cond}
-use Prim.Native.Nat.{ℕ, _+_, _*_, _/_, _%_, _<_, _≤_}
+use Prim.Native.Nat.{ℕ, _+_, _*_, _/_, _%_, _<_}
 use native.Mathlib.Nat.{div-div-eq-div-mul}
 use native.Mathlib.Omega.{arith}
 use lib.Dec.{leb}

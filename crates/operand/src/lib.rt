@@ -1,7 +1,6 @@
 // A term of an operand is a wire with two shifts, and an operand a part of a store of terms. Follows frontend/src/lower/operand.rs.
 ghost use mathlib.Core.Path.{_≡_};
 ghost use mathlib.Core.Bool.{_&&_};
-ghost use mathlib.Core.List.{[], _∷_};
 ghost use lib.Dec.{eqb};
 ghost use Rattle.word.specs.Answers.{checked};
 ghost use Rattle.shift.specs.Shifts.{valid, identity};

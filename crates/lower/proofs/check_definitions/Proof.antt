@@ -1,10 +1,8 @@
 -- 8, 9 and 10 in turn. Assumes nothing.
 use Rattle.lower.proofs.Doubles.{twice-model, empty-model}
 use Rattle.lower.proofs.Checks.{checked, dsts-small}
-use Rattle.lower.specs.Faults.{definitionFault, twice, empty, double}
-use mathlib.Core.Bool.{true, false}
-use mathlib.Core.Path.{_≡_, sym, ap, _∙_}
-use borrow.Author.Needs.{needs}
+use Rattle.lower.specs.Faults.{definitionFault}
+use mathlib.Core.Path.{sym, _∙_}
 use Rattle.lower.proofs.check_definitions.Statement.{statement}
 use Rattle.lower.proofs.check_definitions.Tie as tie
 

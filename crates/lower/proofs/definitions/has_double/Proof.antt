@@ -2,8 +2,7 @@
 use Rattle.lower.proofs.Doubles.{in-table, double-lists}
 use Rattle.lower.proofs.Checks.{checked}
 use Rattle.lower.specs.Tables.{listsDouble}
-use Prim.Native.Nat.{ℕ}
-use mathlib.Core.Path.{_≡_, sym, ap, _∙_}
+use mathlib.Core.Path.{sym, ap, _∙_}
 use borrow.Author.Needs.{needs}
 use Rattle.lower.proofs.definitions.has_double.Statement.{statement}
 use Rattle.lower.proofs.definitions.has_double.Tie as tie

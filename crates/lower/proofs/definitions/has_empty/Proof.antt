@@ -5,9 +5,9 @@ use Rattle.lower.specs.Faults.{lengthOf}
 use Rattle.lower.specs.Lists.{someOf}
 use Rattle.operand.specs.declared.WireOperand.{WireOperand}
 use lib.Dec.{eqb}
-use lib.ListN.{length, take, drop, getD}
+use lib.ListN.{take, drop, getD}
 use native.Mathlib.Omega.{arith}
-use Prim.Native.Nat.{ℕ, _-_, _+_, _<_, _≤_}
+use Prim.Native.Nat.{ℕ, _-_, _≤_}
 use mathlib.Core.Bool.{true, false}
 use mathlib.Core.Path.{_≡_, sym, ap, _∙_, refl}
 use borrow.Author.Needs.{needs}

@@ -3,15 +3,12 @@ use Rattle.lower.proofs.Somes.{again, again-stop, again-go, again-none}
 use Rattle.lower.proofs.Firsts.{part-step, part-end, part-all}
 use Rattle.lower.specs.Tables.{marked}
 use Rattle.lower.specs.Faults.{repeated}
-use Rattle.lower.specs.Lists.{All}
 use borrow.Author.Tests.{ne-eqb, eq-eqb}
-use lib.Dec.{eqb}
-use lib.Seq.{length-take-le, getD-take}
 use lib.ListN.{length, take, drop, getD, length-set, length-replicate}
 use native.Mathlib.Omega.{arith}
-use Prim.Native.Nat.{ℕ, _-_, _+_, _<_, _≤_}
+use Prim.Native.Nat.{ℕ, _-_, _<_, _≤_}
 use mathlib.Core.Bool.{true, false}
-use mathlib.Core.Path.{_≡_, sym, ap, _∙_, refl}
+use mathlib.Core.Path.{_≡_, sym, _∙_}
 use borrow.Author.Needs.{needs}
 use Rattle.lower.proofs.definitions.is_twice.Statement.{statement}
 use Rattle.lower.proofs.definitions.is_twice.Tie as tie

@@ -2,8 +2,7 @@
 use Rattle.lower.proofs.Doubles.{lists-first, lists-second, lists-third, lists-fourth, lists-last}
 use Rattle.lower.proofs.Checks.{checked, stand}
 use native.Mathlib.Omega.{arith}
-use mathlib.Core.Path.{_≡_, sym, _∙_}
-use borrow.Author.Needs.{needs}
+use mathlib.Core.Path.{sym, _∙_}
 use Rattle.lower.proofs.definitions.lists_double.Statement.{statement}
 use Rattle.lower.proofs.definitions.lists_double.Tie as tie
 

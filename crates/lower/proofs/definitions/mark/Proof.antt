@@ -4,8 +4,8 @@ use Rattle.lower.proofs.Firsts.{part-step, part-end, part-all}
 use Rattle.lower.specs.Tables.{marks}
 use lib.ListN.{length, take, drop, getD, length-set}
 use native.Mathlib.Omega.{arith}
-use Prim.Native.Nat.{ℕ, _-_, _+_, _<_, _≤_}
-use mathlib.Core.Path.{_≡_, sym, ap, _∙_, refl}
+use Prim.Native.Nat.{ℕ, _-_, _≤_}
+use mathlib.Core.Path.{_≡_, sym, _∙_, refl}
 use borrow.Author.Needs.{needs}
 use Rattle.lower.proofs.definitions.mark.Statement.{statement}
 use Rattle.lower.proofs.definitions.mark.Tie as tie

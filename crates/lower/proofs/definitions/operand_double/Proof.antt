@@ -3,7 +3,7 @@ use Rattle.lower.specs.Tables.{doubleIn, handleDouble}
 use Rattle.lower.specs.Lists.{someOf}
 use Rattle.operand.specs.Numbers.{operandOf, termOf}
 use mathlib.Core.List.{map}
-use mathlib.Core.Path.{_≡_, ap, _∙_}
+use mathlib.Core.Path.{ap, _∙_}
 use borrow.Author.Needs.{needs}
 use Rattle.lower.proofs.definitions.operand_double.Statement.{statement}
 use Rattle.lower.proofs.definitions.operand_double.Tie as tie

@@ -3,11 +3,10 @@ use Rattle.lower.proofs.Somes.{some-stop, some-go}
 use Rattle.lower.proofs.Firsts.{part-step, part-end, part-all}
 use Rattle.lower.specs.Tables.{handleDouble}
 use Rattle.lower.specs.Lists.{someOf}
-use lib.ListN.{length, take, drop, getD}
+use lib.ListN.{take, drop, getD}
 use native.Mathlib.Omega.{arith}
-use Prim.Native.Nat.{ℕ, _-_, _+_, _<_, _≤_}
-use mathlib.Core.Bool.{true, false}
-use mathlib.Core.Path.{_≡_, sym, ap, _∙_, refl}
+use Prim.Native.Nat.{_-_, _≤_}
+use mathlib.Core.Path.{_≡_, sym, _∙_, refl}
 use borrow.Author.Needs.{needs}
 use Rattle.lower.proofs.definitions.operands_double.Statement.{statement}
 use Rattle.lower.proofs.definitions.operands_double.Tie as tie

@@ -1,13 +1,13 @@
 -- The outer shift's amount, then the place, then the table. Assumes nothing.
-use Rattle.lower.specs.Tables.{doubleIn, marked}
+use Rattle.lower.specs.Tables.{marked}
 use Rattle.operand.specs.Numbers.{termOf}
 use borrow.Author.Tests.{ne-eqb, eq-eqb}
 use lib.Dec.{eqb}
-use lib.ListN.{length, getD, List·getD-eq-default}
+use lib.ListN.{length, List·getD-eq-default}
 use native.Mathlib.Omega.{arith}
-use Prim.Native.Nat.{ℕ, _-_, _+_, _<_, _≤_, _%_}
-use mathlib.Core.Bool.{Bool, true, false, not, _&&_, _||_}
-use mathlib.Core.Path.{_≡_, sym, ap, _∙_, refl}
+use Prim.Native.Nat.{ℕ, _-_, _≤_, _%_}
+use mathlib.Core.Bool.{true, false}
+use mathlib.Core.Path.{_≡_, sym, ap, _∙_}
 use borrow.Author.Needs.{needs}
 use Rattle.lower.proofs.definitions.term_double.Statement.{statement}
 use Rattle.lower.proofs.definitions.term_double.Tie as tie

@@ -6,10 +6,9 @@ use Rattle.lower.specs.Lists.{someOf}
 use Rattle.operand.specs.Numbers.{termOf}
 use lib.ListN.{length, drop, getD, drop-of-length-le}
 use native.Mathlib.Omega.{arith}
-use Prim.Native.Nat.{ℕ, _-_, _+_, _<_, _≤_}
-use mathlib.Core.Bool.{true, false}
+use Prim.Native.Nat.{ℕ, _-_, _≤_}
 use mathlib.Core.List.{map}
-use mathlib.Core.Path.{_≡_, sym, ap, _∙_, refl}
+use mathlib.Core.Path.{_≡_, sym, _∙_}
 use borrow.Author.Needs.{needs}
 use Rattle.lower.proofs.definitions.terms_double.Statement.{statement}
 use Rattle.lower.proofs.definitions.terms_double.Tie as tie

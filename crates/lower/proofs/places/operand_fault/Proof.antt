@@ -3,7 +3,7 @@ use Rattle.lower.specs.Faults.{operandFault, firstFault, termFault}
 use Rattle.operand.specs.Numbers.{operandAt, operandOf, within, termOf}
 use borrow.Author.Tests.{leb-true, not-true, not-false}
 use mathlib.Core.List.{map}
-use mathlib.Core.Bool.{Bool, true, false}
+use mathlib.Core.Bool.{true, false}
 use mathlib.Core.Path.{_≡_, sym, ap, _∙_}
 use borrow.Author.Needs.{needs}
 use Rattle.lower.proofs.places.operand_fault.Statement.{statement}
