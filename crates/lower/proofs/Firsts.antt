@@ -42,9 +42,6 @@ pub unless-holds : (b : Bool) (n : ℕ) → 0 < n → unless b n ≡ 0 → b ≡
 unless-holds true n p h = refl
 unless-holds false n p h = absurd (omega arith)
 
-pub unless-none : (b : Bool) (n : ℕ) → b ≡ true → unless b n ≡ 0
-unless-none b n h = rw h
-
 pub unless-only : (Q : ℕ → Type 0) (b : Bool) (n : ℕ) → Q 0 → Q n → Q (unless b n)
 unless-only Q true n p q = p
 unless-only Q false n p q = q

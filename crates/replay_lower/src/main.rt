@@ -1,56 +1,73 @@
-// Replays checks in memory. The input is a list of pairs of numbers, eight bytes each: a place and what to put there; or the place 8192
-// and the number that the system standing in memory then has to be given. What is printed: how many answers were right and wrong, and
-// how often each number was given.
+// Replays checks in memory. The input is a list of pairs of numbers, eight bytes each: a place and what to put there; or a place past all
+// and the number that what stands in memory has to be given. What is printed: how many answers were right and wrong, and a digest of them.
 //
-// Memory is one array. 0 is the limit of terms; 1 to 6 the counts; from 7 on, two places for each of the eight stores (old, new, ands,
-// imuls, bmuls, zeros, destinations, right sides): where it begins and where it ends; from 23 on, what stands in them.
+// Memory is one array of 8192 numbers. 0 is the limit of terms; 1 to 6 the counts; from 7 on, two places for each of the eight stores
+// (old, new, ands, imuls, bmuls, zeros, destinations, right sides): where it begins and where it ends; from 23 on, what stands in them.
+// The destinations are an array of their own.
+ghost use mathlib.Core.Path.{_≡_};
+ghost use Prim.Native.Nat.{_/_, _<_};
+ghost use lib.ListN.{length, getD, set};
+ghost use Rattle.replay_lower.specs.Replay.{wordAt, partOf, storeAt, sizesAt, checkedAt, counted, stateOf, stepOf, after};
 use libc::STDIN_FILENO;
 use libc::STDOUT_FILENO;
 use lower::Sizes;
 
-const MEMORY: usize = 8192;
-
 struct Tally {
     right: u64,
     wrong: u64,
-    given: [u64; 11],
+    digest: u64,
 }
 
 // The number at place `i`, 0 past the end.
-fn get(memory: &[u64], i: usize) -> u64 {
+fn get(memory: &[u64], i: usize) -> u64
+    ensures { λ r. ⌜ r ≡ getD (now (memory .entry)) i 0 ⌝ }
+{
     if i < memory.len() {
         return memory[i];
     }
     0
 }
 
-// The store whose two places are `i` and `i + 1`; empty where they are no places.
-fn store<'a>(memory: &'a [u64], i: u16) -> &'a [u64] {
-    let begin = get(memory, i as usize) as usize;
-    let end = get(memory, i as usize + 1) as usize;
-    if end < begin {
+// A part of the memory; empty where it is none.
+fn part<'a>(memory: &'a [u64], begin: u64, end: u64) -> &'a [u64]
+    ensures { λ r. ⌜ now r ≡ partOf (now (memory .entry)) begin end ⌝ }
+{
+    let b = begin as usize;
+    let e = end as usize;
+    if e < b {
         return &memory[0..0];
     }
-    if memory.len() < end {
+    if memory.len() < e {
         return &memory[0..0];
     }
-    &memory[begin..end]
+    &memory[b..e]
 }
 
-// Copies the destinations, as many as there is room for; how many.
-fn narrow(from: &[u64], to: &mut [u16]) -> usize {
-    let mut i = 0;
-    while i < from.len() {
-        if to.len() <= i {
-            return i;
-        }
-        to[i] = (from[i] % 65536) as u16;
-        i += 1;
+// The store whose two places are `i` and `i + 1`.
+fn store<'a>(memory: &'a [u64], i: u16) -> &'a [u64]
+    ensures { λ r. ⌜ now r ≡ storeAt (now (memory .entry)) (now (memory .entry)) i ⌝ }
+{
+    part(memory, get(memory, i as usize), get(memory, i as usize + 1))
+}
+
+// The same of the destinations.
+fn destinations<'a>(dsts: &'a [u16], begin: u64, end: u64) -> &'a [u16]
+    ensures { λ r. ⌜ now r ≡ partOf (now (dsts .entry)) begin end ⌝ }
+{
+    let b = begin as usize;
+    let e = end as usize;
+    if e < b {
+        return &dsts[0..0];
     }
-    i
+    if dsts.len() < e {
+        return &dsts[0..0];
+    }
+    &dsts[b..e]
 }
 
-fn sizes(memory: &[u64]) -> Sizes {
+fn sizes(memory: &[u64]) -> Sizes
+    ensures { λ r. ⌜ r ≡ sizesAt (now (memory .entry)) ⌝ }
+{
     Sizes {
         wires: get(memory, 1) as usize,
         ands: get(memory, 2) as usize,
@@ -61,7 +78,9 @@ fn sizes(memory: &[u64]) -> Sizes {
     }
 }
 
-fn run<'a>(memory: &'a [u64], dsts: &[u16]) -> u8 {
+fn run<'a>(memory: &'a [u64], dsts: &[u16]) -> u8
+    ensures { λ r. ⌜ r ≡ checkedAt (now (memory .entry)) (now (dsts .entry)) ⌝ }
+{
     lower::check_all(
         store(memory, 7),
         store(memory, 9),
@@ -69,69 +88,110 @@ fn run<'a>(memory: &'a [u64], dsts: &[u16]) -> u8 {
         store(memory, 13),
         store(memory, 15),
         store(memory, 17),
-        dsts,
+        destinations(dsts, get(memory, 19), get(memory, 20)),
         store(memory, 21),
         sizes(memory),
         get(memory, 0),
     )
 }
 
-fn run_memory(memory: &[u64]) -> u8 {
-    let mut room = [0u16; 2048];
-    let n = narrow(store(memory, 19), &mut room);
-    if n <= 2048 {
-        return run(memory, &room[0..n]);
+fn count(t: Tally, answer: u8, expected: u64) -> Tally
+    ensures { λ r. ⌜ r ≡ counted t answer expected ⌝ }
+{
+    let digest = (t.digest % 1000000007 * 31 + answer as u64) % 1000000007;
+    if answer as u64 == expected {
+        return Tally {
+            right: std::num::wrapping_add_u64(t.right, 1),
+            wrong: t.wrong,
+            digest,
+        };
+    }
+    Tally {
+        right: t.right,
+        wrong: std::num::wrapping_add_u64(t.wrong, 1),
+        digest,
+    }
+}
+
+fn byte(input: &[u8], i: usize) -> u64
+    ensures { λ r. ⌜ (r ≡ getD (now (input .entry)) i 0) × (r < 256) ⌝ }
+{
+    if i < input.len() {
+        return input[i] as u64;
     }
     0
 }
 
-fn count(t: Tally, answer: u8, expected: u64) -> Tally {
-    let mut u = t;
-    if answer as u64 == expected {
-        u.right = std::num::wrapping_add_u64(t.right, 1);
-    } else {
-        u.wrong = std::num::wrapping_add_u64(t.wrong, 1);
-    }
-    let i = answer as usize;
-    if i < 11 {
-        let before = u.given[i];
-        u.given[i] = std::num::wrapping_add_u64(before, 1);
-    }
-    u
-}
-
 // The `i`-th number of the input, the low byte first.
-fn word(input: &[u8], i: usize) -> u64 {
+fn word(input: &[u8], i: usize) -> u64
+    ensures { λ r. ⌜ r ≡ wordAt (now (input .entry)) i ⌝ }
+{
     if input.len() / 8 <= i {
         return 0;
     }
-    let mut w: u64 = 0;
-    let mut k: usize = 8;
-    while 0 < k {
-        k -= 1;
-        w = w << 8 | input[8 * i + k] as u64;
-    }
-    w
+    let at = 8 * i;
+    byte(input, at)
+        + 256 * byte(input, at + 1)
+        + 65536 * byte(input, at + 2)
+        + 16777216 * byte(input, at + 3)
+        + 4294967296 * byte(input, at + 4)
+        + 1099511627776 * byte(input, at + 5)
+        + 281474976710656 * byte(input, at + 6)
+        + 72057594037927936 * byte(input, at + 7)
 }
 
-fn step(memory: &mut [u64], place: u64, number: u64, t: Tally) -> Tally {
-    if place < memory.len() as u64 {
-        memory[place as usize] = number;
+fn put(memory: &mut [u64], i: usize, number: u64)
+    ensures { λ r. ⌜ now (memory .exit) ≡ set (now (memory .entry)) i number ⌝ }
+{
+    if i < memory.len() {
+        memory[i] = number;
+    }
+}
+
+fn put_destination(dsts: &mut [u16], i: usize, number: u16)
+    ensures { λ r. ⌜ now (dsts .exit) ≡ set (now (dsts .entry)) i number ⌝ }
+{
+    if i < dsts.len() {
+        dsts[i] = number;
+    }
+}
+
+// One pair: places below 65536 are memory's, the next 65536 the destinations'; at those past them, what stands in memory is checked.
+fn step(memory: &mut [u64], dsts: &mut [u16], place: u64, number: u64, t: Tally) -> Tally
+    ensures { λ r. ⌜ stateOf (now (memory .exit)) (now (dsts .exit)) r ≡ stepOf (stateOf (now (memory .entry)) (now (dsts .entry)) t) place number ⌝ }
+{
+    let i = (place % 65536) as usize;
+    let kind = place / 65536;
+    if kind == 0 {
+        put(&mut *memory, i, number);
         return t;
     }
-    count(t, run_memory(&*memory), number)
+    if kind == 1 {
+        put_destination(&mut *dsts, i, (number % 65536) as u16);
+        return t;
+    }
+    count(t, run(&*memory, &*dsts), number)
 }
 
-fn replay(input: &[u8]) -> Tally {
-    let mut memory = [0u64; MEMORY];
+fn replay(input: &[u8]) -> Tally
+    ensures { λ r. ⌜ r ≡ after (now (input .entry)) (length (now (input .entry)) / 16) .tally ⌝ }
+{
+    let mut memory = [0u64; 8192];
+    let mut dsts = [0u16; 2048];
     let mut t = Tally {
         right: 0,
         wrong: 0,
-        given: [0; 11],
+        digest: 0,
     };
     let mut i = 0;
     while i < input.len() / 16 {
-        t = step(&mut memory, word(input, 2 * i), word(input, 2 * i + 1), t);
+        t = step(
+            &mut memory,
+            &mut dsts,
+            word(input, 2 * i),
+            word(input, 2 * i + 1),
+            t,
+        );
         i += 1;
     }
     t
@@ -140,15 +200,6 @@ fn replay(input: &[u8]) -> Tally {
 fn print(label: &[u8], n: u64) {
     io::write_all(STDOUT_FILENO, label);
     io::print_decimal(STDOUT_FILENO, n);
-}
-
-fn print_given(given: &[u64]) {
-    let mut i = 0;
-    while i < given.len() {
-        print(b"\nnumber ", i as u64);
-        print(b" given ", given[i]);
-        i += 1;
-    }
 }
 
 fn main() {
@@ -160,7 +211,6 @@ fn main() {
     let t = replay(&input[0..n]);
     print(b"right ", t.right);
     print(b" wrong ", t.wrong);
-    let given = t.given;
-    print_given(&given);
+    print(b" digest ", t.digest);
     io::write_all(STDOUT_FILENO, b"\n");
 }

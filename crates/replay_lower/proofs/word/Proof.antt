@@ -1,59 +1,138 @@
--- The index goes down from 8. Assumes nothing.
-use native.Mathlib.Omega.{arith}
-use Prim.Native.Nat.{_-_, _≤_, _+_, _*_}
+-- Eight bytes. Assumes nothing.
+use borrow.Author.Tests.{lt-ltb, le-ltb}
 use borrow.Author.Needs.{needs}
 use Rattle.replay_lower.proofs.word.Statement.{statement}
 use Rattle.replay_lower.proofs.word.Tie as tie
 
-abbrev Inv-loop : tie.InvT-loop
-Inv-loop input i w₀ k₀ w k = k ≤ 8
+returns : tie.Need-returns
+returns c = rw (le-ltb _ _ (c .if1 .taken))
 
-abbrev μ-loop : tie.MeasureT-loop
-μ-loop input i w₀ k₀ w k = k
+mul-at : tie.Need-mul-at
+mul-at c = search needs
 
-returns : tie.Need-returns Inv-loop μ-loop
-returns c = search needs
+byte-requires : tie.Need-byte-requires
+byte-requires c κs = search needs
 
-loop-holds : tie.Need-loop-holds Inv-loop μ-loop
-loop-holds c = search needs
+add-byte : tie.Need-add-byte
+add-byte c = search needs
 
-sub-k : tie.Need-sub-k Inv-loop μ-loop
-sub-k c = search needs
+byte-requires-2 : tie.Need-byte-requires-2
+byte-requires-2 c κs = search needs
 
-mul-w : tie.Need-mul-w Inv-loop μ-loop
-mul-w c = search needs
+mul-result : tie.Need-mul-result
+mul-result c = search needs
 
-add-w : tie.Need-add-w Inv-loop μ-loop
-add-w c = search needs
+add-result : tie.Need-add-result
+add-result c = search needs
 
-shared-slice-read-w : tie.Need-shared-slice-read-w Inv-loop μ-loop
-shared-slice-read-w c = search needs
+add-byte-2 : tie.Need-add-byte-2
+add-byte-2 c = search needs
 
-cast-w : tie.Need-cast-w Inv-loop μ-loop
-cast-w c = omega (arith, c .shared-slice-known .given (8 * c .before .before .before .before .args .i + (c .before .before .loop .k - 1)))
+byte-requires-3 : tie.Need-byte-requires-3
+byte-requires-3 c κs = search needs
 
-loop-less : tie.Need-loop-less Inv-loop μ-loop
-loop-less c = search needs
+mul-result-2 : tie.Need-mul-result-2
+mul-result-2 c = search needs
 
-loop-again : tie.Need-loop-again Inv-loop μ-loop
-loop-again c = search needs
+add-result-2 : tie.Need-add-result-2
+add-result-2 c = search needs
 
-returns-2 : tie.Need-returns-2 Inv-loop μ-loop
-returns-2 c = search needs
+add-byte-3 : tie.Need-add-byte-3
+add-byte-3 c = search needs
+
+byte-requires-4 : tie.Need-byte-requires-4
+byte-requires-4 c κs = search needs
+
+mul-result-3 : tie.Need-mul-result-3
+mul-result-3 c = search needs
+
+add-result-3 : tie.Need-add-result-3
+add-result-3 c = search needs
+
+add-byte-4 : tie.Need-add-byte-4
+add-byte-4 c = search needs
+
+byte-requires-5 : tie.Need-byte-requires-5
+byte-requires-5 c κs = search needs
+
+mul-result-4 : tie.Need-mul-result-4
+mul-result-4 c = search needs
+
+add-result-4 : tie.Need-add-result-4
+add-result-4 c = search needs
+
+add-byte-5 : tie.Need-add-byte-5
+add-byte-5 c = search needs
+
+byte-requires-6 : tie.Need-byte-requires-6
+byte-requires-6 c κs = search needs
+
+mul-result-5 : tie.Need-mul-result-5
+mul-result-5 c = search needs
+
+add-result-5 : tie.Need-add-result-5
+add-result-5 c = search needs
+
+add-byte-6 : tie.Need-add-byte-6
+add-byte-6 c = search needs
+
+byte-requires-7 : tie.Need-byte-requires-7
+byte-requires-7 c κs = search needs
+
+mul-result-6 : tie.Need-mul-result-6
+mul-result-6 c = search needs
+
+add-result-6 : tie.Need-add-result-6
+add-result-6 c = search needs
+
+add-byte-7 : tie.Need-add-byte-7
+add-byte-7 c = search needs
+
+byte-requires-8 : tie.Need-byte-requires-8
+byte-requires-8 c κs = search needs
+
+mul-result-7 : tie.Need-mul-result-7
+mul-result-7 c = search needs
+
+add-result-7 : tie.Need-add-result-7
+add-result-7 c = search needs
+
+returns-2 : tie.Need-returns-2
+returns-2 c = rw (lt-ltb _ _ (c .before .before .before .before .before .before .before .before .if1 .left), ← c .before .before .before .before .before .before .before .byte .ensures .0, ← c .before .before .before .before .before .before .byte2 .ensures .0, ← c .before .before .before .before .before .byte3 .ensures .0, ← c .before .before .before .before .byte4 .ensures .0, ← c .before .before .before .byte5 .ensures .0, ← c .before .before .byte6 .ensures .0, ← c .before .byte7 .ensures .0, ← c .byte8 .ensures .0)
 
 pub word-spec : {M : Type 1} → statement M
 word-spec =
     tie.close
     (tie.spec
-    Inv-loop
-    μ-loop
     returns
-    loop-holds
-    sub-k
-    mul-w
-    add-w
-    shared-slice-read-w
-    cast-w
-    loop-less
-    loop-again
+    mul-at
+    byte-requires
+    add-byte
+    byte-requires-2
+    mul-result
+    add-result
+    add-byte-2
+    byte-requires-3
+    mul-result-2
+    add-result-2
+    add-byte-3
+    byte-requires-4
+    mul-result-3
+    add-result-3
+    add-byte-4
+    byte-requires-5
+    mul-result-4
+    add-result-4
+    add-byte-5
+    byte-requires-6
+    mul-result-5
+    add-result-5
+    add-byte-6
+    byte-requires-7
+    mul-result-6
+    add-result-6
+    add-byte-7
+    byte-requires-8
+    mul-result-7
+    add-result-7
     returns-2)
