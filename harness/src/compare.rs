@@ -10,11 +10,8 @@ use crate::{
     outcome::{Fused, Outcome, dump, dump_lists},
     random::Random,
     rules,
-    system::{Constraint, MAX_WRITTEN, System},
+    system::{Constraint, MAX_WRITTEN, REPORT_ROOM, System},
 };
-
-/// The rooms that are tried: that of `fusereport` too, for systems that can fill it.
-const REPORT_ROOM: usize = 4096;
 
 /// What runs came to.
 #[derive(Default)]
@@ -55,7 +52,7 @@ impl Totals {
             Outcome::Unread(fault) => self.refused[usize::from(fault.refusal)] += 1,
             Outcome::Refused(refusal) => self.refused[usize::from(*refusal)] += 1,
             Outcome::Fused(fused) => self.note_fused(fused),
-            Outcome::Endless => self.endless += 1,
+            Outcome::Endless { .. } => self.endless += 1,
             Outcome::Panicked(_) => {}
         }
     }
@@ -123,20 +120,25 @@ pub fn faults_of(system: &System, totals: &mut Totals) -> Vec<String> {
     faults
 }
 
-/// An endless run of the Rust has no answer to compare; the rules' answer is then checked by its values alone.
 fn fault_of_run(system: &System, slots: usize, by_rules: &Outcome, by_rust: &Outcome) -> Option<String> {
-    if by_rules != by_rust && *by_rust != Outcome::Endless {
-        return Some(format!(
-            "slots {slots}\n{}rules:\n{}Rust:\n{}",
-            dump_lists(system),
-            dump(by_rules),
-            dump(by_rust)
-        ));
+    if !agree(by_rules, by_rust) {
+        let (rules, rust) = (dump(by_rules), dump(by_rust));
+        return Some(format!("slots {slots}\n{}rules:\n{rules}Rust:\n{rust}", dump_lists(system)));
     }
     match by_rules {
         Outcome::Fused(fused) => fault_of_values(system, fused),
         Outcome::Refused(refusal) => fault_of_refusal(system, slots, *refusal),
         _ => None,
+    }
+}
+
+/// Where the Rust is not run to its end, its decision and the number of its terms are compared, and no lists.
+fn agree(by_rules: &Outcome, by_rust: &Outcome) -> bool {
+    match (by_rules, by_rust) {
+        (Outcome::Fused(fused), Outcome::Endless { committed, written }) => {
+            fused.committed == *committed && fused.written == *written
+        }
+        _ => by_rules == by_rust,
     }
 }
 
@@ -150,13 +152,12 @@ fn fault_of_refusal(system: &System, slots: usize, refusal: house::Refusal) -> O
     (!agrees).then(|| format!("the Rust finds nothing wrong where 01 refuses with {refusal}\n{}", dump_lists(system)))
 }
 
-/// A room that is exactly filled is enough, and one less is not.
+/// A room that is exactly filled is enough, and one less is not. `fusereport`'s room is tried on both sides.
 fn fault_of_room(system: &System, slots: usize, fused: &Fused) -> Option<String> {
     let exact = rules::fuse(system, slots, fused.written);
     let fits = matches!(&exact, Outcome::Fused(again) if again == fused);
     let short = fused.written == 0 || rules::fuse(system, slots, fused.written - 1) == Outcome::Refused(house::ROOM);
-    let in_report = oracle::fuse(system, slots, REPORT_ROOM);
-    let report_agrees = in_report == Outcome::Endless || in_report == rules::fuse(system, slots, REPORT_ROOM);
+    let report_agrees = agree(&rules::fuse(system, slots, REPORT_ROOM), &oracle::fuse(system, slots, REPORT_ROOM));
     (!fits || !short || !report_agrees).then(|| format!("slots {slots}: a room of {} terms", fused.written))
 }
 

@@ -11,11 +11,13 @@ pub mod evaluate;
 pub mod examples;
 pub mod generate;
 pub mod house;
+pub mod memory;
 pub mod oracle;
 #[cfg(feature = "ours")]
 pub mod ours;
 pub mod outcome;
 pub mod random;
+pub mod replay;
 pub mod rules;
 pub mod second_reader;
 pub mod shifts;

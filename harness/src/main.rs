@@ -2,23 +2,20 @@
 
 use std::{
     io::{Read, Write},
+    path::Path,
     process::ExitCode,
 };
 
 use harness::{
     bench, circuits, compare, damage, generate,
     house::{self, FULL},
-    oracle,
+    memory, oracle,
     outcome::{Fuse, Outcome, dump, report},
     random::Random,
-    rules, shifts,
-    system::{MAX_WRITTEN, System},
+    replay, rules, shifts,
+    system::{MAX_WRITTEN, REPORT_BYTES, REPORT_ROOM, System},
     vectors,
 };
-
-/// `fusereport`'s limits.
-const REPORT_BYTES: usize = 65_536;
-const REPORT_ROOM: usize = 4096;
 
 const USAGE: &str = "\
 usage: harness COMMAND, see README.md
@@ -33,12 +30,13 @@ usage: harness COMMAND, see README.md
   circuit NAME SIZE SEED > FILE a real circuit as a house file
   bench REPEATS                 the real circuits: sizes, checks, microseconds of the Rust
   vectors FOLDER                the files that replay programs read
+  replay FOLDER                 those files against the readers and the rules
   damage FIRST COUNT            damaged files through two readers
+  memory FOLDER                 stdin and stdout of replay_lower
 ";
 
 fn main() -> ExitCode {
-    // The Rust's panics are answers here; they are shown where they matter.
-    std::panic::set_hook(Box::new(|_| {}));
+    oracle::silence_rust();
     let arguments: Vec<String> = std::env::args().skip(1).collect();
     let arguments: Vec<&str> = arguments.iter().map(String::as_str).collect();
     match run(&arguments) {
@@ -73,6 +71,8 @@ fn run(arguments: &[&str]) -> Option<ExitCode> {
         ["circuit", name, size, seed] => circuit(name, size.parse().ok()?, seed.parse().ok()?)?,
         ["bench", repeats] => return Some(code(bench::bench(repeats.parse().ok()?))),
         ["vectors", folder] => print!("{}", vectors::write(folder.as_ref()).expect("the folder can be written")),
+        ["replay", folder] => return Some(replay_files(folder.as_ref())),
+        ["memory", folder] => print!("{}", memory::write(folder.as_ref()).expect("the folder can be written")),
         ["compare-shifts"] => return Some(compare_shifts()),
         _ => return None,
     }
@@ -147,6 +147,12 @@ fn compare_shifts() -> ExitCode {
         differences += tried.differences;
     }
     code(differences == 0)
+}
+
+fn replay_files(folder: &Path) -> ExitCode {
+    let replayed = replay::replay(folder).expect("the folder has the three files");
+    println!("vectors {} mismatches {}", replayed.vectors, replayed.mismatches);
+    code(replayed.mismatches == 0)
 }
 
 fn damage_files(first: u64, count: u64) -> ExitCode {

@@ -1,6 +1,7 @@
 //! Drives the unchanged Rust: a system goes into its builder, through its graph, decision and patches, and its lists come back.
 
 use std::{
+    cell::Cell,
     collections::HashMap,
     panic::{AssertUnwindSafe, catch_unwind},
 };
@@ -23,6 +24,28 @@ use crate::{
     system::{AND, BMUL, Definition, IMUL, MAX_WRITTEN, Operand, System, Term, ZERO},
 };
 
+thread_local! {
+    /// Whether a panic is the Rust's, and so an answer.
+    static IN_RUST: Cell<bool> = const { Cell::new(false) };
+}
+
+/// Lets only those panics be told that are not the Rust's.
+pub fn silence_rust() {
+    let tell = std::panic::take_hook();
+    std::panic::set_hook(Box::new(move |info| {
+        if !IN_RUST.get() {
+            tell(info);
+        }
+    }));
+}
+
+fn caught<T>(run: impl FnOnce() -> T) -> std::thread::Result<T> {
+    IN_RUST.set(true);
+    let result = catch_unwind(AssertUnwindSafe(run));
+    IN_RUST.set(false);
+    result
+}
+
 /// The most terms that the Rust's expansion is let look at.
 pub const MOST_STEPS: u64 = 4_000_000;
 
@@ -31,7 +54,7 @@ pub fn fuse(system: &System, slots: usize, room: usize) -> Outcome {
     if let Err(refusal) = check(system, slots) {
         return Outcome::Refused(refusal);
     }
-    let run = catch_unwind(AssertUnwindSafe(|| fuse_checked(system, slots, room)));
+    let run = caught(|| fuse_checked(system, slots, room));
     run.unwrap_or_else(|panic| Outcome::Panicked(message_of(panic.as_ref())))
 }
 
@@ -41,7 +64,7 @@ pub fn decision_panics(system: &System, slots: usize) -> bool {
         let builder = builder_of(system);
         run_decide_commit_set(&mut LeGraph::new(&builder), slots);
     };
-    catch_unwind(AssertUnwindSafe(decision)).is_err()
+    caught(decision).is_err()
 }
 
 /// Whether petgraph finds a circle in the Rust's graph.
@@ -64,7 +87,7 @@ fn fuse_checked(system: &System, slots: usize, room: usize) -> Outcome {
         return Outcome::Refused(ROOM);
     }
     if cost.steps > MOST_STEPS {
-        return Outcome::Endless;
+        return Outcome::Endless { committed: committed_wires(&graph), written: cost.written as usize };
     }
     let before = terms_stored(&builder);
     let patches = patch::build(&mut builder, &graph);
@@ -128,9 +151,13 @@ pub fn number_of(shift: Shift) -> u16 {
     shift.index() as u16
 }
 
+fn committed_wires(graph: &LeGraph) -> Vec<u16> {
+    graph.commit_set().iter().map(|wire| wire.0 as u16).collect()
+}
+
 fn fused(system: &System, builder: &ConstraintBuilder, graph: &LeGraph, written: usize) -> Fused {
     let after = system_of(builder, system.wires);
-    let committed: Vec<u16> = graph.commit_set().iter().map(|wire| wire.0 as u16).collect();
+    let committed = committed_wires(graph);
     // The Rust appends the committed definitions behind those that it left alone.
     let left_alone = &after.linears[..after.linears.len() - committed.len()];
     let mut stranded: Vec<u16> = left_alone.iter().map(|definition| definition.dst).collect();

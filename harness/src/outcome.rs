@@ -17,8 +17,12 @@ pub enum Outcome {
     /// Fusing's refusal.
     Refused(Refusal),
     Fused(Fused),
-    /// The Rust's expansion would look at more terms than the harness lets it.
-    Endless,
+    /// The Rust's expansion would look at more terms than the harness lets it. What is known all the same: the wires that it commits, and
+    /// how many terms it would write.
+    Endless {
+        committed: Vec<u16>,
+        written: usize,
+    },
     /// The Rust panicked, with this message.
     Panicked(String),
 }
@@ -50,7 +54,7 @@ pub fn report(outcome: &Outcome) -> String {
         Outcome::Unread(fault) => format!("refused {}", fault.refusal),
         Outcome::Refused(refusal) => format!("refused {refusal}"),
         Outcome::Fused(fused) => format!("ok {}", counts(fused).map(|count| count.to_string()).join(" ")),
-        Outcome::Endless => "endless".into(),
+        Outcome::Endless { .. } => "endless".into(),
         Outcome::Panicked(message) => format!("panicked {message}"),
     }
 }

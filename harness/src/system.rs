@@ -12,6 +12,9 @@ pub const MAX_OTHERS: usize = 1024;
 pub const MAX_TERMS: usize = 8192;
 /// The greatest number of terms in the result store.
 pub const MAX_WRITTEN: usize = 16384;
+/// The longest file that `fusereport` reads, and its result store.
+pub const REPORT_BYTES: usize = 65_536;
+pub const REPORT_ROOM: usize = 4096;
 
 /// A wire under two shifts, which are numbers: 64 x variant + amount. Inner is applied first.
 #[derive(Copy, Clone, Debug, PartialEq, Eq, Hash, PartialOrd, Ord)]

@@ -1,5 +1,6 @@
-//! Real circuits, lowered gate by gate as binius64 lowers them: a shift or an xor becomes a Linear definition, an and, an addition or a
-//! comparison an And over shifted operands, a multiplication an Imul or a Bmul, an equality a Zero.
+//! Real circuits, lowered gate by gate as binius64 does: a shift or an xor becomes a Linear definition, an and, an addition or a comparison
+//! an And over shifted operands, a multiplication an Imul or a Bmul, an equality a Zero. binius64's gates are not among the seven files, so
+//! which constraints a gate gets is written here and not compared.
 //!
 //! A circuit is built at concrete inputs and keeps every wire's word, so that its constraints can be evaluated. Its system is the same at
 //! all inputs.

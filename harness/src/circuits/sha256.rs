@@ -63,13 +63,13 @@ fn schedule(c: &mut Circuit, w: &mut Vec<Wire>, rounds: usize) {
 
 fn round(c: &mut Circuit, [a, b, cc, d, e, f, g, h]: [Wire; 8], k: u32, w: Wire) -> [Wire; 8] {
     let s1 = rotations(c, e, [6, 11, 25]);
-    let f_or_g = c.xor(&[f, g]);
-    let ch = c.and_xor(e, f_or_g, g);
+    let f_xor_g = c.xor(&[f, g]);
+    let ch = c.and_xor(e, f_xor_g, g);
     let k = c.constant(both_halves(k, k));
     let t1 = [s1, ch, k, w].into_iter().fold(h, |sum, part| c.add32(sum, part));
     let s0 = rotations(c, a, [2, 13, 22]);
-    let (a_or_c, b_or_c) = (c.xor(&[a, cc]), c.xor(&[b, cc]));
-    let maj = c.and_xor(a_or_c, b_or_c, cc);
+    let (a_xor_c, b_xor_c) = (c.xor(&[a, cc]), c.xor(&[b, cc]));
+    let maj = c.and_xor(a_xor_c, b_xor_c, cc);
     let t2 = c.add32(s0, maj);
     [c.add32(t1, t2), a, b, cc, c.add32(d, t1), e, f, g]
 }
