@@ -1,6 +1,7 @@
 -- What operands are worth under an assignment, and when constraints hold (01, "Shifts").
 --
---   moved n x        the word x shifted by the shift of number n; no number but a valid shift's moves anything but 0 out of it
+--   moved n x        the word x shifted by the shift of number n. Where n is no shift's number there is nothing that it could be; the 0
+--                    that stands there is read by nobody, since each check refuses such a number with 4
 --   termValue w t    the word of the term's wire, shifted by inner, then outer; w i is the word of wire i
 --   value w o        the xor of the operand's terms
 --   wordOf ws        the assignment that a list of words is, one to a wire
