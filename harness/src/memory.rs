@@ -224,6 +224,9 @@ fn edits(image: &[u64]) -> Vec<Edit> {
         for place in [begin(store), (begin(store) + end(store)) / 2, end(store) - 1] {
             edits.push((place, operand(old_terms - 2, 3)));
             edits.push((place, operand(new_terms - 2, 3) | NEW_STORE));
+            edits.push((place, operand(old_terms, 0)));
+            edits.push((place, operand(new_terms + 1, 0) | NEW_STORE));
+            edits.push((place, u64::MAX));
             let handle = image[place];
             let terms = if handle >= NEW_STORE { begin(1) } else { begin(0) } + (handle >> 32 & 0x7FFF_FFFF) as usize;
             edits.push((terms, image[terms] & !0xFFFF | 9));
@@ -244,6 +247,13 @@ fn edits(image: &[u64]) -> Vec<Edit> {
     edits.push((8 + 2 * 6, end(6) as u64 - 1));
     edits.extend([(0, 134), (1, 0), (1, 4097), (1, 4096), (6, u64::MAX), (2, u64::MAX / 3 + 1)]);
     edits
+}
+
+/// One wire and nothing else, in stores of no length.
+fn nothing() -> Memory {
+    let none = Vec::new;
+    let rows = [none(), none(), none(), none()];
+    Memory { limit: 0, wires: 1, counts: [0; 5], old: none(), new: none(), rows, dsts: none(), rhss: none() }
 }
 
 /// 1,024 or 1,025 definitions, or rows of one kind.
@@ -336,7 +346,7 @@ fn replay() -> Replay {
     let rare = |(place, _): Edit| place < 23 || place >= rhss;
     for (i, &one) in edits.iter().enumerate() {
         for &other in edits[i + 1..].iter().filter(|other| other.0 != one.0) {
-            if rare(one) && rare(other) || (one.0 * 7 + other.0) % 7 == 0 {
+            if rare(one) && rare(other) || (one.0 * 7 + other.0) % 11 == 0 {
                 replay.case(&[one, other]);
             }
         }
@@ -346,6 +356,7 @@ fn replay() -> Replay {
         let place = random.between(23, small().image().len() - 4);
         replay.case(&[(place, random.word() >> random.below(64))]);
     }
+    replay.whole(&nothing(), &[(1, 0), (1, 4096), (1, 4097), (2, 1), (6, 1)]);
     replay.whole(&many(1024, 0), &[(6, 1025), (6, 1023), (0, 1023), (0, 1024)]);
     replay.whole(&many(1, 1024), &[(5, 1025), (5, 1023), (2, 1), (0, 1024), (0, 1025)]);
     replay.whole(&many(1025, 0), &[]);

@@ -5,7 +5,7 @@ use Prim.Native.Nat.{ℕ}
 use Rattle.shift.specs.Shifts.{shifted}
 use Rattle.operand.specs.Numbers.{Term}
 use Rattle.lower.specs.Model.{System, rowOperands, definitionOperands, usesOf}
-use Rattle.lower.specs.Values.{value, moved, termValue, wordOf}
+use Rattle.lower.specs.Values.{value, moved, termValue, wordOf, RowHolds, ZeroHolds}
 use Rattle.lower.specs.Accepted.{Reaches, names, through}
 use Rattle.lower.specs.Faults.{definitionFault}
 
@@ -44,3 +44,13 @@ sample-proper = refl
 
 pub sample-reaches : Reaches sample 2 0
 sample-reaches = through {v = 1} (names (term 1 0 ∷ []) (term 1 0) refl (List·Memᴰ·head refl)) (names (term 0 72 ∷ []) (term 0 72) refl (List·Memᴰ·head refl))
+
+-- a Zero of two operands, or of none, does not hold, whatever they are worth
+pub sample-lacking : RowHolds ZeroHolds (wordOf []) [] → ⊥
+sample-lacking h = h
+
+pub sample-double : RowHolds ZeroHolds (wordOf []) ([] ∷ [] ∷ []) → ⊥
+sample-double h = h
+
+pub sample-zero : RowHolds ZeroHolds (wordOf []) ([] ∷ [])
+sample-zero = refl

@@ -3,13 +3,14 @@
 --   Shaped p         rows of 3, 4, 6 and 1 operands
 --   Named p          5: every wire named is below the wire count
 --   Shifted p        4: every shift number is a valid shift's
---   Limits n p       6: the limits, n terms at most
+--   MAX_WIRES ..     the limits; MAX_TERMS is that of a system to fuse
+--   Limits n p       6: within the limits, with n terms at most
 --   Once ds          8: no wire is defined twice
 --   NotEmpty p       9: every definition has a term
 --   Single p         10: the outer shift is an identity in a definition's term, and in any term naming a defined wire
 --   Reaches p v w    the definition of v names w, or a wire whose definition reaches w
 --   NoCircle p       11: no definition reaches itself
---   Accepted p       all of these, with 8,192 terms at most
+--   Accepted p       all of these, with MAX_TERMS terms at most
 --
 -- Assumes nothing.
 use mathlib.Core.Path.{_≡_}
@@ -43,11 +44,23 @@ abbrev pub Shifted : System → Type 0
 Shifted p = All ShiftsOf (termsOf p)
 
 -- "wire count 0 or above 4,096; over 1,024 definitions, 1,024 other constraints in all, 8,192 terms"
+abbrev pub MAX_WIRES : ℕ
+MAX_WIRES = 4096
+
+abbrev pub MAX_DEFINITIONS : ℕ
+MAX_DEFINITIONS = 1024
+
+abbrev pub MAX_OTHERS : ℕ
+MAX_OTHERS = 1024
+
+abbrev pub MAX_TERMS : ℕ
+MAX_TERMS = 8192
+
 pub record Limits (limit : ℕ) (p : System) : Type 0 where
   pub wires-some : 0 < p .wires
-  pub wires-few : p .wires ≤ 4096
-  pub definitions-few : length (p .linears) ≤ 1024
-  pub others-few : length (p .ands) + length (p .imuls) + length (p .bmuls) + length (p .zeros) ≤ 1024
+  pub wires-few : p .wires ≤ MAX_WIRES
+  pub definitions-few : length (p .linears) ≤ MAX_DEFINITIONS
+  pub others-few : length (p .ands) + length (p .imuls) + length (p .bmuls) + length (p .zeros) ≤ MAX_OTHERS
   pub terms-few : length (termsOf p) ≤ limit
 
 -- "a wire defined twice"
@@ -80,7 +93,7 @@ pub record Accepted (p : System) : Type 0 where
   pub shaped : Shaped p
   pub named : Named p
   pub shifted : Shifted p
-  pub limits : Limits 8192 p
+  pub limits : Limits MAX_TERMS p
   pub once : Once (p .linears)
   pub not-empty : NotEmpty p
   pub single : Single p

@@ -26,7 +26,7 @@ use Rattle.operand.specs.Numbers.{Term, Operand, operandAt, operandOf, within}
 use Rattle.lower.specs.declared.Sizes.{Sizes}
 use Rattle.lower.specs.Lists.{someOf, joined, sumOf}
 use Rattle.lower.specs.Model.{System, definitionOperands, termsOf, destinations, defines}
-use Rattle.lower.specs.Accepted.{isIdentity}
+use Rattle.lower.specs.Accepted.{isIdentity, MAX_WIRES, MAX_DEFINITIONS, MAX_OTHERS}
 use Rattle.lower.specs.Stores.{Stores, handlesOf, systemOf}
 
 -- "3 | SHAPE | .. in memory, see below"
@@ -103,9 +103,9 @@ termsIn z s = sumOf lengthOf (handlesOf z (s .ands) (s .imuls) (s .bmuls) (s .ze
 unfoldable pub fullFault : ℕ → Sizes → ℕ → ℕ
 fullFault limit z terms =
     orElse (unless (ltb 0 (z .wires)) FULL)
-    (orElse (unless (leb (z .wires) 4096) FULL)
-    (orElse (unless (leb (z .linears) 1024) FULL)
-    (orElse (unless (leb (z .ands + z .imuls + z .bmuls + z .zeros) 1024) FULL)
+    (orElse (unless (leb (z .wires) MAX_WIRES) FULL)
+    (orElse (unless (leb (z .linears) MAX_DEFINITIONS) FULL)
+    (orElse (unless (leb (z .ands + z .imuls + z .bmuls + z .zeros) MAX_OTHERS) FULL)
     (unless (leb terms limit) FULL))))
 
 unfoldable pub memoryFault : ℕ → Sizes → Stores → ℕ

@@ -4,8 +4,9 @@
 --                    that stands there is read by nobody, since each check refuses such a number with 4
 --   termValue w t    the word of the term's wire, shifted by inner, then outer; w i is the word of wire i
 --   value w o        the xor of the operand's terms
---   wordOf ws        the assignment that a list of words is, one to a wire
---   AndHolds, ZeroHolds, DefinitionHolds    what each kind asks of the values
+--   wordOf ws        the assignment that a list of words is, one to a wire; an entry refuses a list that is not as long as the wire count
+--   AndHolds, ZeroHolds, DefinitionHolds    what each kind asks of the values. A row that lacks an operand, or has one too many, does not
+--                    hold: no value that is missing reads as 0
 --   Satisfies        the assignment satisfies every constraint; Imul and Bmul are any relation of their operands' values
 --
 -- Assumes nothing.
@@ -36,11 +37,17 @@ wordOf ws i = getD ws i 0
 
 -- "And holds if a and b, bitwise, are c"
 abbrev pub AndHolds : List ℕ → Type 0
-AndHolds vs = bitAnd (getD vs 0 0) (getD vs 1 0) ≡ getD vs 2 0
+AndHolds [] = ⊥
+AndHolds (a ∷ []) = ⊥
+AndHolds (a ∷ b ∷ []) = ⊥
+AndHolds (a ∷ b ∷ c ∷ []) = bitAnd a b ≡ c
+AndHolds (a ∷ b ∷ c ∷ d ∷ vs) = ⊥
 
 -- "Zero if val is 0"
 abbrev pub ZeroHolds : List ℕ → Type 0
-ZeroHolds vs = getD vs 0 0 ≡ 0
+ZeroHolds [] = ⊥
+ZeroHolds (val ∷ []) = val ≡ 0
+ZeroHolds (val ∷ v ∷ vs) = ⊥
 
 abbrev pub RowHolds : (List ℕ → Type 0) → (ℕ → ℕ) → Row → Type 0
 RowHolds R w r = R (map (value w) r)

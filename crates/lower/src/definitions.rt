@@ -5,6 +5,7 @@ ghost use lib.ListN.{length, take};
 ghost use lib.Dec.{eqb};
 ghost use mathlib.Core.List.{map};
 ghost use Rattle.operand.specs.Numbers.{termOf};
+ghost use Rattle.lower.specs.Accepted.{MAX_WIRES};
 ghost use Rattle.lower.specs.Lists.{All, someOf};
 ghost use Rattle.lower.specs.Stores.{stores, Stands, systemOf};
 ghost use Rattle.lower.specs.Faults.{lengthOf, repeated, placesFault, double};
@@ -14,10 +15,10 @@ use operand::WireOperand;
 
 // By a table of the wires met.
 pub fn is_twice(dsts: &[u16], n: usize) -> bool
-    requires { ⌜ (n ≤ length (now dsts)) × All (λ (d : ℕ). d < 4096) (take n (now dsts)) ⌝ }
+    requires { ⌜ (n ≤ length (now dsts)) × All (λ (d : ℕ). d < MAX_WIRES) (take n (now dsts)) ⌝ }
     ensures { λ r. ⌜ r ≡ repeated (take n (now (dsts .entry))) ⌝ }
 {
-    let mut met = [0u8; 4096];
+    let mut met = [0u8; crate::MAX_WIRES];
     let mut i = 0;
     while i < n {
         let d = dsts[i] as usize;
@@ -172,10 +173,10 @@ pub fn has_double<'a>(
     z: Sizes,
 ) -> bool
     requires { ⌜ placesFault z (stores (now old) (now new) (now ands) (now imuls) (now bmuls) (now zeros) (now dsts) (now rhss)) ≡ 0 ⌝ }
-    requires { ⌜ z .wires ≤ 4096 ⌝ }
+    requires { ⌜ z .wires ≤ MAX_WIRES ⌝ }
     ensures { λ r. ⌜ r ≡ double (systemOf z (stores (now (old .entry)) (now (new .entry)) (now (ands .entry)) (now (imuls .entry)) (now (bmuls .entry)) (now (zeros .entry)) (now (dsts .entry)) (now (rhss .entry)))) ⌝ }
 {
-    let mut defined = [0u8; 4096];
+    let mut defined = [0u8; crate::MAX_WIRES];
     mark(dsts, z.linears, &mut defined);
     lists_double(old, new, ands, imuls, bmuls, zeros, dsts, rhss, z, &defined)
 }

@@ -2,6 +2,7 @@
 ghost use mathlib.Core.Path.{_≡_};
 ghost use Prim.Native.Nat.{_+_, _*_, _≤_};
 ghost use lib.ListN.{length, take};
+ghost use Rattle.lower.specs.Accepted.{MAX_DEFINITIONS, MAX_OTHERS};
 ghost use Rattle.lower.specs.Lists.{sumOf};
 ghost use Rattle.lower.specs.Stores.{handlesOf};
 ghost use Rattle.lower.specs.Faults.{lengthOf, fullFault};
@@ -32,7 +33,7 @@ fn all_terms(
     rhss: &[u64],
     z: Sizes,
 ) -> u64
-    requires { ⌜ (z .ands + z .imuls + z .bmuls + z .zeros ≤ 1024) × (z .linears ≤ 1024) ⌝ }
+    requires { ⌜ (z .ands + z .imuls + z .bmuls + z .zeros ≤ MAX_OTHERS) × (z .linears ≤ MAX_DEFINITIONS) ⌝ }
     requires { ⌜ (3 * z .ands ≤ length (now ands)) × (4 * z .imuls ≤ length (now imuls)) × (6 * z .bmuls ≤ length (now bmuls)) × (z .zeros ≤ length (now zeros)) × (z .linears ≤ length (now rhss)) ⌝ }
     ensures { λ r. ⌜ r ≡ sumOf lengthOf (handlesOf z (now (ands .entry)) (now (imuls .entry)) (now (bmuls .entry)) (now (zeros .entry)) (now (rhss .entry))) ⌝ }
 {

@@ -2,6 +2,7 @@
 ghost use mathlib.Core.Path.{_≡_};
 ghost use Prim.Native.Nat.{_≤_};
 ghost use Rattle.operand.specs.Numbers.{operandAt, termsAt};
+ghost use Rattle.lower.specs.Accepted.{MAX_WIRES};
 ghost use Rattle.lower.specs.Stores.{stores, Stands, systemOf};
 ghost use Rattle.lower.specs.Faults.{memoryFault, placesFault, definitionFault, faultOf};
 use operand::WireOperand;
@@ -125,7 +126,7 @@ pub fn check_definitions<'a>(
     z: Sizes,
 ) -> u8
     requires { ⌜ placesFault z (stores (now old) (now new) (now ands) (now imuls) (now bmuls) (now zeros) (now dsts) (now rhss)) ≡ 0 ⌝ }
-    requires { ⌜ z .wires ≤ 4096 ⌝ }
+    requires { ⌜ z .wires ≤ MAX_WIRES ⌝ }
     ensures { λ r. ⌜ r ≡ definitionFault (systemOf z (stores (now (old .entry)) (now (new .entry)) (now (ands .entry)) (now (imuls .entry)) (now (bmuls .entry)) (now (zeros .entry)) (now (dsts .entry)) (now (rhss .entry)))) ⌝ }
 {
     let n = z.linears;

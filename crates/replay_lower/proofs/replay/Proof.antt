@@ -1,11 +1,10 @@
 -- One pair after the other. Assumes nothing.
 use Rattle.replay_lower.proofs.Steps.{next}
-use Rattle.replay_lower.specs.Replay.{State, stateOf, stepOf, after, wordAt}
+use Rattle.replay_lower.specs.Replay.{State, stateOf, after}
 use lib.ListN.{length, length-replicate}
 use native.Mathlib.Omega.{arith}
-use native.Mathlib.Numerals.{add-one}
-use Prim.Native.Nat.{ℕ, suc, _+_, _*_, _-_, _≤_, _/_}
-use mathlib.Core.Path.{_≡_, refl, sym, ap, _∙_}
+use Prim.Native.Nat.{ℕ, _-_, _≤_, _/_}
+use mathlib.Core.Path.{_≡_, refl, ap}
 use borrow.Author.Needs.{needs}
 use Rattle.replay_lower.proofs.replay.Statement.{statement}
 use Rattle.replay_lower.proofs.replay.Tie as tie

@@ -1,7 +1,7 @@
 -- The stores, the sizes and the limit as they stand. Assumes nothing.
 use Rattle.replay_lower.proofs.Parts.{store-is}
 use Rattle.replay_lower.specs.Replay.{checkedAt, storesAt}
-use mathlib.Core.Path.{sym, _∙_}
+use mathlib.Core.Path.{_∙_}
 use borrow.Author.Needs.{needs}
 use Rattle.replay_lower.proofs.run.Statement.{statement}
 use Rattle.replay_lower.proofs.run.Tie as tie

@@ -1,6 +1,5 @@
 -- The part between its two places. Assumes nothing.
-use Rattle.replay_lower.specs.Replay.{storeAt, partOf}
-use mathlib.Core.Path.{_∙_, ap}
+use Rattle.replay_lower.specs.Replay.{storeAt}
 use borrow.Author.Needs.{needs}
 use Rattle.replay_lower.proofs.store.Statement.{statement}
 use Rattle.replay_lower.proofs.store.Tie as tie
