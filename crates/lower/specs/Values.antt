@@ -4,7 +4,7 @@
 --                    that stands there is read by nobody, since each check refuses such a number with 4
 --   termValue w t    the word of the term's wire, shifted by inner, then outer; w i is the word of wire i
 --   value w o        the xor of the operand's terms
---   wordOf ws        the assignment that a list of words is, one to a wire; an entry refuses a list that is not as long as the wire count
+--   wordOf ws        the assignment that a list of words is, one to a wire; 01 refuses one that is not as long as the wire count (13)
 --   AndHolds, ZeroHolds, DefinitionHolds    what each kind asks of the values. A row that lacks an operand, or has one too many, does not
 --                    hold: no value that is missing reads as 0
 --   Satisfies        the assignment satisfies every constraint; Imul and Bmul are any relation of their operands' values
