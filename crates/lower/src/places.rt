@@ -19,7 +19,7 @@ fn is_shift(n: u64) -> bool
     }
 }
 
-pub fn term_fault(t: u64, wires: usize) -> u8
+fn term_fault(t: u64, wires: usize) -> u8
     ensures { λ r. ⌜ r ≡ termFault wires (termOf t) ⌝ }
 {
     let wire = operand::term::wire(t);
@@ -49,7 +49,7 @@ fn terms_fault(ts: &[u64], wires: usize) -> u8
     0
 }
 
-pub fn operand_fault<'a>(old: &'a [u64], new: &'a [u64], h: u64, wires: usize) -> u8
+fn operand_fault<'a>(old: &'a [u64], new: &'a [u64], h: u64, wires: usize) -> u8
     ensures { λ r. ⌜ r ≡ operandFault wires (now (old .entry)) (now (new .entry)) h ⌝ }
 {
     if !WireOperand::from_number(h).is_within(old, new) {
