@@ -1,0 +1,1 @@
+// Uses and definitions. Follows frontend/src/pass/fusion/legraph.rs.
