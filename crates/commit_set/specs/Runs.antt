@@ -37,21 +37,21 @@ bitOf Sra32 = 64
 bitOf Rotr32 = 128
 
 abbrev pub noRun : Run
-noRun = record { variants = 0; total-amount = 0 }
+noRun = record { variants = 0; total = 0 }
 
 abbrev pub runOf : Shift → Run
-runOf s = record { variants = bitOf (s .variant); total-amount = s .amount }
+runOf s = record { variants = bitOf (s .variant); total = s .amount }
 
 -- "the total grows (capped at 255)"
 abbrev pub grown : Run → Shift → ℕ
-grown r s = min (r .total-amount + s .amount) 255
+grown r s = min (r .total + s .amount) 255
 
 -- "if the innermost run's set is exactly that variant and, unless cyclic, the new total stays below the width"
 abbrev pub absorbs : Run → Shift → Bool
 absorbs r s = eqb (r .variants) (bitOf (s .variant)) && (cyclicOf (s .variant) || ltb (grown r s) (widthOf (s .variant)))
 
 abbrev pub absorbed : Run → Shift → Run
-absorbed r s = record { variants = r .variants; total-amount = grown r s }
+absorbed r s = record { variants = r .variants; total = grown r s }
 
 abbrev pub runs : ℕ → Run → Run → ShiftSummary
 runs n a b = record { first = a; second = b; len = n }
@@ -72,7 +72,7 @@ plus r s = cond (eqb (s .amount) 0) r (meets (r .len) (r .first) (r .second) s)
 
 -- "Joining takes the union of sets, the greatest total and the greatest count, run by run"
 abbrev pub joinRun : Run → Run → Run
-joinRun a b = record { variants = bitOr (a .variants) (b .variants); total-amount = max (a .total-amount) (b .total-amount) }
+joinRun a b = record { variants = bitOr (a .variants) (b .variants); total = max (a .total) (b .total) }
 
 abbrev pub joinRuns : ShiftSummary → ShiftSummary → ShiftSummary
 joinRuns a b = runs (max (a .len) (b .len)) (joinRun (a .first) (b .first)) (joinRun (a .second) (b .second))

@@ -4,7 +4,7 @@
 pub struct Run {
     // one bit for each variant in it
     pub variants: u8,
-    pub total_amount: u8,
+    pub total: u8,
 }
 
 // The shifts of a path as runs, the outermost first.
