@@ -1,7 +1,7 @@
 -- What a check without fault says of the stores. Assumes nothing.
 use mathlib.Core.Path.{_≡_, sym, _∙_}
 use mathlib.Core.List.{List, [], _∷_}
-use Prim.Native.Nat.{ℕ, _*_, _≤_, _<_}
+use Prim.Native.Nat.{ℕ, _+_, _*_, _≤_, _<_}
 use native.Mathlib.Omega.{arith}
 use lib.ListN.{length, take}
 use lib.Seq.{length-take-le}
@@ -137,3 +137,25 @@ module _ (limit : ℕ) (z : Sizes) (s : Stores) (e : memoryFault limit z s ≡ 0
       let w = z .wires in
       let f = else-second (unless (ltb 0 w) 6) _ memory-full in
       leb-true _ _ (unless-holds (leb w 4096) 6 (omega arith) (else-first (unless (leb w 4096) 6) _ f))
+
+  pub memory-definitions : z .linears ≤ 1024
+  unfolding fullFault
+  memory-definitions =
+      let f = else-second (unless (leb (z .wires) 4096) 6) _ (else-second (unless (ltb 0 (z .wires)) 6) _ memory-full) in
+      leb-true _ _ (unless-holds (leb (z .linears) 1024) 6 (omega arith) (else-first (unless (leb (z .linears) 1024) 6) _ f))
+
+  pub memory-others : z .ands + z .imuls + z .bmuls + z .zeros ≤ 1024
+  unfolding fullFault
+  memory-others =
+      let n = z .ands + z .imuls + z .bmuls + z .zeros in
+      let f = else-second (unless (leb (z .wires) 4096) 6) _ (else-second (unless (ltb 0 (z .wires)) 6) _ memory-full) in
+      let g = else-second (unless (leb (z .linears) 1024) 6) _ f in
+      leb-true _ _ (unless-holds (leb n 1024) 6 (omega arith) (else-first (unless (leb n 1024) 6) _ g))
+
+  pub memory-terms : termsIn z s ≤ limit
+  unfolding fullFault
+  memory-terms =
+      let n = z .ands + z .imuls + z .bmuls + z .zeros in
+      let f = else-second (unless (leb (z .wires) 4096) 6) _ (else-second (unless (ltb 0 (z .wires)) 6) _ memory-full) in
+      let g = else-second (unless (leb n 1024) 6) _ (else-second (unless (leb (z .linears) 1024) 6) _ f) in
+      leb-true _ _ (unless-holds (leb (termsIn z s) limit) 6 (omega arith) g)
