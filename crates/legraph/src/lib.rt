@@ -1,18 +1,34 @@
 // Uses and definitions. Follows frontend/src/pass/fusion/legraph.rs; the walk, which also finds circles, is added.
 ghost use mathlib.Core.Path.{_≡_};
 ghost use Prim.Native.Nat.{ℕ, _<_, _≤_};
-ghost use lib.ListN.{length, getD, take};
+ghost use lib.ListN.{length, getD, set, take};
 ghost use Rattle.lower.specs.Lists.{All};
 ghost use Rattle.legraph.specs.Tables.{numbered, toldNode};
 use operand::LinDefId;
 use operand::Wire;
 
+pub mod post_order;
 pub mod uses;
 
 // What a wire is: defined by a definition, or not.
 pub enum Node {
     LinDef(LinDefId),
     Opaque,
+}
+
+// How much of the order is left, and whether a circle was met.
+pub struct Walk {
+    pub left: usize,
+    pub circle: bool,
+}
+
+// What would stand past the end is not stored.
+fn put(store: &mut [u16], i: usize, v: u16)
+    ensures { λ r. ⌜ now (store .exit) ≡ set (now (store .entry)) i v ⌝ }
+{
+    if i < store.len() {
+        store[i] = v;
+    }
 }
 
 // Which definition each wire has, counted from 1: from the last one, so that the first one stands.

@@ -3,7 +3,7 @@
 ghost use mathlib.Core.Path.{_≡_};
 ghost use mathlib.Core.List.{map};
 ghost use Prim.Native.Nat.{_<_, _≤_};
-ghost use lib.ListN.{length, getD, set, take};
+ghost use lib.ListN.{length, getD, take};
 ghost use Rattle.operand.specs.Numbers.{termOf, operandOf};
 ghost use Rattle.lower.specs.Lists.{All};
 ghost use Rattle.lower.specs.Accepted.{MAX_TERMS};
@@ -19,15 +19,6 @@ fn first_of(first: &[u16], d: LinDefId) -> u16
 {
     let i = d.0 as usize;
     if i < first.len() { first[i] } else { 0 }
-}
-
-fn set_first(first: &mut [u16], d: LinDefId, place: u16)
-    ensures { λ r. ⌜ now (first .exit) ≡ set (now (first .entry)) (d .0) place ⌝ }
-{
-    let i = d.0 as usize;
-    if i < first.len() {
-        first[i] = place;
-    }
 }
 
 fn number(user: u16, shift: u16, next: u16) -> u64
@@ -52,7 +43,7 @@ fn add_edge(
     }
     let next = first_of(&*first, d);
     uses[n] = number(user, shift, next);
-    set_first(&mut *first, d, (n + 1) as u16);
+    crate::put(&mut *first, d.0 as usize, (n + 1) as u16);
     n + 1
 }
 

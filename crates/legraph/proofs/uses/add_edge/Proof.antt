@@ -22,14 +22,17 @@ mul-uses c = search needs
 slice-write-uses : tie.Need-slice-write-uses
 slice-write-uses c = search needs
 
-add-set-first : tie.Need-add-set-first
-add-set-first c = search needs
+cast-put : tie.Need-cast-put
+cast-put c = search needs
 
-cast-set-first : tie.Need-cast-set-first
-cast-set-first c = search needs
+add-put : tie.Need-add-put
+add-put c = search needs
 
-set-first-requires : tie.Need-set-first-requires
-set-first-requires c κs = search needs
+cast-put-2 : tie.Need-cast-put-2
+cast-put-2 c = search needs
+
+put-requires : tie.Need-put-requires
+put-requires c κs = search needs
 
 add-result : tie.Need-add-result
 add-result c = search needs
@@ -41,7 +44,7 @@ same-length-2 : tie.Need-same-length-2
 same-length-2 c = search needs
 
 returns-2 : tie.Need-returns-2
-returns-2 c = let s = c .before .before .before .before .before .before .before .before .before .before in (cc (push-room (s .args .user) (s .args .shift) (s .args .d .0) (s .args .first .now) (s .args .uses .now) (s .args .n) (c .before .before .before .before .before .before .before .if1 .left), c .before .before .set-first .ensures, c .before .before .before .before .number .ensures, c .before .before .before .before .before .first-of .ensures), omega arith)
+returns-2 c = let s = c .before .before .before .before .before .before .before .before .before .before .before in (cc (push-room (s .args .user) (s .args .shift) (s .args .d .0) (s .args .first .now) (s .args .uses .now) (s .args .n) (c .before .before .before .before .before .before .before .before .if1 .left), c .before .before .put .ensures, c .before .before .before .before .before .number .ensures, c .before .before .before .before .before .before .first-of .ensures), omega arith)
 
 pub add-edge-spec : {M : Type 1} → statement M
 add-edge-spec =
@@ -52,9 +55,10 @@ add-edge-spec =
     number-requires
     mul-uses
     slice-write-uses
-    add-set-first
-    cast-set-first
-    set-first-requires
+    cast-put
+    add-put
+    cast-put-2
+    put-requires
     add-result
     same-length
     same-length-2
