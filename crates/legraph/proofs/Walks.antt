@@ -99,3 +99,21 @@ closed-unmarked w d = go (w .circle) refl
 pub rhs-terms : (old new rhss ts : List ℕ) (d : ℕ) → ts ≡ termsAt old new (operandAt (getD rhss d 0)) → map termOf ts ≡ rhsIn old new rhss d
 unfolding operandOf
 rhs-terms old new rhss ts d e = ap (map termOf) e
+
+pub unmarked-length : (xs : List ℕ) → unmarked xs ≤ length xs
+unfolding unmarked
+unmarked-length [] = omega arith
+unmarked-length (zero ∷ xs) = omega (arith, unmarked-length xs)
+unmarked-length (suc x ∷ xs) = omega (arith, unmarked-length xs)
+
+pub walk-step : (f : ℕ) (rhs : ℕ → Operand) (table : List ℕ) (k n : ℕ) (w : Walked) → k < n
+    → walkFrom f rhs table k (n - k) w ≡ walkFrom f rhs table (k + 1) (n - (k + 1)) (enter (visit f rhs table) w (suc k))
+unfolding walkFrom
+walk-step f rhs table k n w h =
+    let e : n - k ≡ suc (n - (k + 1)) = omega arith in
+    let g : suc k ≡ k + 1 = omega arith in
+    rw e (ap (λ (j : ℕ). walkFrom f rhs table j (n - (k + 1)) (enter (visit f rhs table) w (suc k))) g)
+
+pub walk-end : (f : ℕ) (rhs : ℕ → Operand) (table : List ℕ) (k n : ℕ) (w : Walked) → n ≤ k → walkFrom f rhs table k (n - k) w ≡ w
+unfolding walkFrom
+walk-end f rhs table k n w h = let e : n - k ≡ 0 = omega arith in rw e

@@ -1,3 +1,4 @@
 pub mod Uses
 pub mod Tables
 pub mod Walked
+pub mod Orders

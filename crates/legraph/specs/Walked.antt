@@ -7,6 +7,7 @@
 --   opened, closed    a definition begins; it is done, and stands in the order before those that it names
 --   visit f           the visit of a definition that is not met, f deep at most
 --   walkFrom f k n    the definitions k, k + 1, .., n of them
+--   begun             before the walk; walkOf, after it: n definitions, from marks that are all 0
 --   unmarked          how many definitions are not met
 --   orderOf           the definitions that are done, the last one first
 --
@@ -61,6 +62,12 @@ visit (suc f) rhs table w d = closed (over (visit f rhs table) table (rhs d) (op
 unfoldable pub walkFrom : ℕ → (ℕ → Operand) → List ℕ → ℕ → ℕ → Walked → Walked
 walkFrom f rhs table k zero w = w
 walkFrom f rhs table k (suc n) w = walkFrom f rhs table (suc k) n (enter (visit f rhs table) w (suc k))
+
+abbrev pub begun : List ℕ → List ℕ → Walked
+begun marks order = record { marks = marks; order = order; left = length order; circle = false }
+
+unfoldable pub walkOf : (ℕ → Operand) → List ℕ → ℕ → List ℕ → List ℕ → Walked
+walkOf rhs table n marks order = walkFrom (length marks) rhs table 0 n (begun marks order)
 
 unfoldable pub unmarked : List ℕ → ℕ
 unmarked [] = 0

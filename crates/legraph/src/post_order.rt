@@ -3,7 +3,7 @@ ghost use mathlib.Core.Path.{_≡_};
 ghost use Prim.Native.Nat.{ℕ, suc, _-_, _<_, _≤_};
 ghost use lib.ListN.{length, getD};
 ghost use Rattle.legraph.specs.Tables.{toldNode};
-ghost use Rattle.legraph.specs.Walked.{walked, enter, visit, closed, unmarked, rhsIn, There, Sound};
+ghost use Rattle.legraph.specs.Walked.{walked, enter, visit, closed, walkOf, unmarked, rhsIn, There, Sound};
 use crate::Node;
 use crate::Walk;
 use operand::LinDefId;
@@ -95,4 +95,32 @@ fn enter<'a>(
         };
     }
     c
+}
+
+// All definitions, the first `count` of `rhss`. Where there is no circle they stand in `order` from `left` on, each before those that it
+// names.
+pub fn walk<'a>(
+    old: &'a [u64],
+    new: &'a [u64],
+    rhss: &[u64],
+    count: usize,
+    table: &[u16],
+    marks: &mut [u8],
+    order: &mut [u16],
+) -> Walk
+    requires { ⌜ Sound (now old) (now new) (now rhss) (now table) (length (now marks)) ⌝ }
+    requires { ⌜ (count < 65536) × ((d : ℕ) → d < count → There (now old) (now new) (now rhss) (length (now marks)) d) ⌝ }
+    ensures { λ r. ⌜ walked (now (marks .exit)) (now (order .exit)) r ≡ walkOf (rhsIn (now (old .entry)) (now (new .entry)) (now (rhss .entry))) (now (table .entry)) count (now (marks .entry)) (now (order .entry)) ⌝ }
+{
+    let mut cur = Walk {
+        left: order.len(),
+        circle: false,
+    };
+    let mut k = 0;
+    while k < count {
+        let node = Node::LinDef(LinDefId(k as u16));
+        cur = enter(old, new, rhss, table, &mut *marks, &mut *order, cur, node);
+        k += 1;
+    }
+    cur
 }
