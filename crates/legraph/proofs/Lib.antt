@@ -1,3 +1,5 @@
 mod Laws
 mod Walks
 mod Walking
+mod Numbering
+mod Listing
