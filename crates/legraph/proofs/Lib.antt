@@ -3,3 +3,5 @@ mod Walks
 mod Walking
 mod Numbering
 mod Listing
+mod Circles
+mod Theorem
