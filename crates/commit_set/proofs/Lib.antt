@@ -1,2 +1,3 @@
 pub mod Adding
 pub mod Packing
+pub mod Bounds

@@ -21,7 +21,8 @@ run-small : (r : Run) → RunPacks r → runNumber r < 65536
 run-small r p = omega (arith, p .set-byte, p .total-byte)
 
 context-back : (c : CommitSetCx) → ContextPacks c → contextAt (contextNumber c) ≡ c
-context-back c p =
+context-back c packs =
+    let p = packs .runs-pack in
     let n = contextNumber c in
     let a = runNumber (c .shifts .first) in
     let b = runNumber (c .shifts .second) in
@@ -42,4 +43,6 @@ decision-back (Inline c) p =
     rw (ne-eqb (1 + 2 * n) 0 (λ e. omega arith), h, context-back c p)
 
 pub context-small : (c : CommitSetCx) → ContextPacks c → contextNumber c < 1125899906842624
-context-small c p = omega (arith, p .count-few, run-small (c .shifts .first) (p .first-packs), run-small (c .shifts .second) (p .second-packs), p .depth-low)
+context-small c packs =
+    let p = packs .runs-pack in
+    omega (arith, p .count-few, run-small (c .shifts .first) (p .first-packs), run-small (c .shifts .second) (p .second-packs), packs .depth-low)

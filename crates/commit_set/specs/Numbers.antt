@@ -9,6 +9,7 @@ use Prim.Native.Nat.{ℕ, _+_, _*_, _/_, _%_, _<_}
 use mathlib.Core.Bool.{cond}
 use lib.Dec.{eqb}
 use Rattle.commit_set.specs.declared.Run.{Run}
+use Rattle.commit_set.specs.declared.ShiftSummary.{ShiftSummary}
 use Rattle.commit_set.specs.declared.CommitSetCx.{CommitSetCx}
 use Rattle.commit_set.specs.declared.Decision.{Decision}
 use Rattle.commit_set.specs.declared.Decision.the-variants.{Commit, Inline}
@@ -38,10 +39,13 @@ pub record RunPacks (r : Run) : Type 0 where
   pub set-byte : r .variants < 256
   pub total-byte : r .total < 256
 
+pub record RunsPack (r : ShiftSummary) : Type 0 where
+  pub count-few : r .len < 4
+  pub first-packs : RunPacks (r .first)
+  pub second-packs : RunPacks (r .second)
+
 pub record ContextPacks (c : CommitSetCx) : Type 0 where
-  pub count-few : c .shifts .len < 4
-  pub first-packs : RunPacks (c .shifts .first)
-  pub second-packs : RunPacks (c .shifts .second)
+  pub runs-pack : RunsPack (c .shifts)
   pub depth-low : c .depth < 65536
 
 abbrev pub Packs : Decision → Type 0
