@@ -1,3 +1,4 @@
 pub mod Adding
 pub mod Packing
 pub mod Bounds
+pub mod Seeking
