@@ -1,11 +1,9 @@
 -- Every decision that the rules give is within the bits of its number, as long as no use stands at depth 65,535 or deeper.
 -- Assumes nothing.
-use mathlib.Core.Path.{_≡_, refl}
-use Prim.Native.Nat.{ℕ, zero, suc, _<_, min, max}
+use Prim.Native.Nat.{ℕ, zero, suc, _<_}
 use native.Mathlib.Omega.{arith}
-use mathlib.Core.Bool.{Bool, true, false, cond}
 use mathlib.Core.List.{List, [], _∷_}
-use lib.Bits.{bitOr, or-lt}
+use lib.Bits.{or-lt}
 use lib.Dec.{eqb}
 use Rattle.shift.specs.declared.ShiftVariant.{ShiftVariant}
 use Rattle.shift.specs.declared.ShiftVariant.the-variants.{Sll, Slr, Sar, Rotr, Sll32, Srl32, Sra32, Rotr32}
@@ -15,10 +13,8 @@ use Rattle.lower.specs.Lists.{All, done, more}
 use Rattle.commit_set.specs.declared.Run.{Run}
 use Rattle.commit_set.specs.declared.ShiftSummary.{ShiftSummary}
 use Rattle.commit_set.specs.declared.CommitSetCx.{CommitSetCx}
-use Rattle.commit_set.specs.declared.Decision.{Decision}
-use Rattle.commit_set.specs.declared.Decision.the-variants.{Commit, Inline}
-use Rattle.commit_set.specs.Runs.{bitOf, runOf, absorbs, absorbed, runs, noRuns, meets, plus, joinRun, joinRuns, joinAll, fresh, under}
-use Rattle.commit_set.specs.Decision.{below, commits, decide}
+use Rattle.commit_set.specs.Runs.{bitOf, runOf, absorbs, absorbed, noRuns, meets, plus, joinRun, joinRuns, joinAll, fresh, under}
+use Rattle.commit_set.specs.Decision.{commits, decide}
 use Rattle.commit_set.specs.Numbers.{RunPacks, RunsPack, ContextPacks, Packs}
 
 bit-byte : (v : ShiftVariant) → bitOf v < 256

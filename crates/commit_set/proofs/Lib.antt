@@ -2,3 +2,7 @@ pub mod Adding
 pub mod Packing
 pub mod Bounds
 pub mod Seeking
+pub mod Users
+pub mod Unique
+pub mod Orders
+pub mod Circles

@@ -1,3 +1,4 @@
 pub mod Runs
 pub mod Decision
 pub mod Numbers
+pub mod Orders
