@@ -6,3 +6,6 @@ pub mod Users
 pub mod Unique
 pub mod Orders
 pub mod Circles
+pub mod Sets
+pub mod Compose
+pub mod Fits
