@@ -9,3 +9,5 @@ pub mod Circles
 pub mod Sets
 pub mod Compose
 pub mod Fits
+pub mod Members
+pub mod Budget

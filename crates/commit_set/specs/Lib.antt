@@ -2,3 +2,4 @@ pub mod Runs
 pub mod Decision
 pub mod Numbers
 pub mod Orders
+pub mod Paths
