@@ -1,31 +1,36 @@
 -- Every decision that the rules give is within the bits of its number, as long as no use stands at depth 65,535 or deeper.
 -- Assumes nothing.
+use mathlib.Core.Path.{_≡_}
 use Prim.Native.Nat.{ℕ, zero, suc, _<_}
 use native.Mathlib.Omega.{arith}
 use mathlib.Core.List.{List, [], _∷_}
 use lib.Bits.{or-lt}
+use mathlib.Core.Bool.{true}
 use lib.Dec.{eqb}
+use lib.ListN.{length}
 use Rattle.shift.specs.declared.ShiftVariant.{ShiftVariant}
-use Rattle.shift.specs.declared.ShiftVariant.the-variants.{Sll, Slr, Sar, Rotr, Sll32, Srl32, Sra32, Rotr32}
 use Rattle.shift.specs.declared.Shift.{Shift}
+use Rattle.shift.specs.Shifts.{shiftAt}
 use Rattle.shift.proofs.Composes.{on-cond}
 use Rattle.lower.specs.Lists.{All, done, more}
+use Rattle.lower.specs.Model.{System}
+use Rattle.lower.proofs.Laws.{all-imp, all-map}
+use Rattle.legraph.specs.Uses.{User, Use, usesOf, dstOf, names}
 use Rattle.commit_set.specs.declared.Run.{Run}
 use Rattle.commit_set.specs.declared.ShiftSummary.{ShiftSummary}
 use Rattle.commit_set.specs.declared.CommitSetCx.{CommitSetCx}
 use Rattle.commit_set.specs.Runs.{bitOf, runOf, absorbs, absorbed, noRuns, meets, plus, joinRun, joinRuns, joinAll, fresh, under}
-use Rattle.commit_set.specs.Decision.{commits, decide}
+use Rattle.commit_set.specs.Decision.{below, contextBy, contextOf, contextsOf, commits, decide}
+use Rattle.commit_set.specs.declared.Decision.{Decision}
+use Rattle.commit_set.specs.declared.Decision.the-variants.{Commit, Inline}
 use Rattle.commit_set.specs.Numbers.{RunPacks, RunsPack, ContextPacks, Packs}
+use Rattle.commit_set.proofs.Sets.{at-each}
+use Rattle.commit_set.proofs.Users.{all-users}
+use Rattle.commit_set.proofs.Circles.{Shallow}
 
 bit-byte : (v : ShiftVariant) → bitOf v < 256
-bit-byte Sll = omega arith
-bit-byte Slr = omega arith
-bit-byte Sar = omega arith
-bit-byte Rotr = omega arith
-bit-byte Sll32 = omega arith
-bit-byte Srl32 = omega arith
-bit-byte Sra32 = omega arith
-bit-byte Rotr32 = omega arith
+bit-byte =
+    at-each (λ v. bitOf v < 256) (omega arith, omega arith, omega arith, omega arith, omega arith, omega arith, omega arith, omega arith)
 
 join-run-packs : (a b : Run) → RunPacks a → RunPacks b → RunPacks (joinRun a b)
 join-run-packs a b p q = record {
@@ -92,3 +97,17 @@ joinAll-packs (c ∷ cs) (more p ps) =
 pub decide-packs : (slots : ℕ) (cs : List CommitSetCx) (ss : List Shift) → All ContextPacks cs → Packs (decide slots cs ss)
 unfolding decide
 decide-packs slots cs ss p = on-cond Packs (commits slots cs ss) (λ e. tt) (λ e. joinAll-packs cs p)
+
+-- ---- the contexts of a definition's uses
+
+below-packs : (x : Decision) (s : Shift) → s .amount < 64 → Packs x → Shallow 65535 x → ContextPacks (below x s)
+below-packs Commit s h p l = fresh-packs s h
+below-packs (Inline c) s h p l = under-packs s h c p l
+
+pub contexts-pack : (p : System) (st : ℕ → Decision) (d : ℕ) → ((e : ℕ) → e < length (p .linears) → names p e d ≡ true → Packs (st e) × Shallow 65535 (st e))
+    → All ContextPacks (contextsOf p st d)
+contexts-pack p st d h =
+    all-map ContextPacks (contextOf st) (usesOf p (dstOf p d))
+    (all-imp (λ (u : Use) k. k (shiftAt (u .shift)) (omega arith)) (usesOf p (dstOf p d))
+    (all-users (λ (u : User). (s : Shift) → s .amount < 64 → ContextPacks (contextBy st u s)) (dstOf p d) p (λ s l. fresh-packs s l)
+    (λ e l m s k. let q = h e l m in below-packs (st e) s k (q .0) (q .1))))

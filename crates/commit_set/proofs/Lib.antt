@@ -11,3 +11,7 @@ pub mod Compose
 pub mod Fits
 pub mod Members
 pub mod Budget
+pub mod Valids
+pub mod OneSlot
+pub mod PerUse
+pub mod Examples

@@ -3,3 +3,5 @@ pub mod Decision
 pub mod Numbers
 pub mod Orders
 pub mod Paths
+pub mod PerUse
+pub mod Examples
