@@ -1,4 +1,4 @@
--- The starred examples hold; so do, in every solution, the And example and the chain of eight. Assumes nothing.
+-- The starred examples hold. Assumes nothing.
 use mathlib.Core.Path.{_≡_, refl}
 use Prim.Native.Nat.{ℕ}
 use native.Mathlib.Omega.{arith}

@@ -15,3 +15,4 @@ pub mod Valids
 pub mod OneSlot
 pub mod PerUse
 pub mod Examples
+pub mod Samples
