@@ -16,3 +16,4 @@ pub mod OneSlot
 pub mod PerUse
 pub mod Examples
 pub mod Samples
+pub mod Storing

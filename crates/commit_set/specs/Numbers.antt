@@ -2,12 +2,15 @@
 --
 --   decisionNumber x   0 for Commit; else a low bit 1, two bits of count, eight for each run's set and total, the outermost first, and the depth
 --   decisionAt n       the decision that the number n stands for: every number stands for one
+--   stateAt l d        the decision of the definition d in the store l
 --   Packs x            each part of x is within its bits
 --
 -- Assumes nothing.
 use Prim.Native.Nat.{ℕ, _+_, _*_, _/_, _%_, _<_}
 use mathlib.Core.Bool.{cond}
+use mathlib.Core.List.{List}
 use lib.Dec.{eqb}
+use lib.ListN.{getD}
 use Rattle.commit_set.specs.declared.Run.{Run}
 use Rattle.commit_set.specs.declared.ShiftSummary.{ShiftSummary}
 use Rattle.commit_set.specs.declared.CommitSetCx.{CommitSetCx}
@@ -34,6 +37,9 @@ decisionNumber (Inline c) = 1 + 2 * contextNumber c
 
 unfoldable pub decisionAt : ℕ → Decision
 decisionAt n = cond (eqb n 0) Commit (Inline (contextAt (n / 2)))
+
+abbrev pub stateAt : List ℕ → ℕ → Decision
+stateAt l d = decisionAt (getD l d 0)
 
 pub record RunPacks (r : Run) : Type 0 where
   pub set-byte : r .variants < 256

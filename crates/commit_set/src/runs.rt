@@ -9,8 +9,11 @@ use crate::ShiftSummary;
 use shift::Shift;
 use shift::ShiftVariant;
 
-// The count that stands for more runs than any slots hold: one more than the two that are kept.
-const OVER_BUDGET: u8 = 3;
+// The runs that are kept: no caller asks for more slots.
+pub const MAX_SHIFT_SLOTS: u8 = 2;
+
+// The count that stands for more runs than any slots hold.
+pub const OVER_BUDGET: u8 = MAX_SHIFT_SLOTS + 1;
 
 // The bit that stands for a variant in a run's set.
 pub fn bit_of(variant: ShiftVariant) -> u8
