@@ -1,11 +1,11 @@
--- Two of 01's examples, in every solution: the And whose definition is inlined with two slots and commits with one, and the chain of
--- eight. Assumes nothing.
+-- 01's examples of decisions, in every solution: the And whose definition is inlined with two slots and commits with one, and the chain
+-- of eight. Assumes nothing.
 use mathlib.Core.Path.{_≡_, refl, ap, _∙_}
 use Prim.Native.Nat.{ℕ, _+_}
 use native.Mathlib.Omega.{arith}
 use mathlib.Core.Bool.{true, false}
 use mathlib.Core.List.{[], _∷_, map}
-use Rattle.shift.specs.declared.ShiftVariant.the-variants.{Sll, Slr}
+use Rattle.shift.specs.declared.ShiftVariant.the-variants.{Sll, Slr, Sar}
 use Rattle.shift.specs.Shifts.{by, identity, shiftAt}
 use Rattle.shift.specs.Compose.{degenerates, chains, composeValid}
 use Rattle.operand.specs.declared.PushInner.the-variants.{Seq}
@@ -21,6 +21,11 @@ use Rattle.commit_set.specs.Paths.{committed}
 
 abbrev term : ℕ → ℕ → Term
 term w n = record { wire = w; inner = n; outer = 0 }
+
+-- "sar 40 twice is two runs", though the two compose to sar 63
+pub two-runs : plus (plus noRuns (by Sar 40)) (by Sar 40) .len ≡ 2
+unfolding plus meets
+two-runs = refl
 
 -- ---- "And with a = (d, sll 1), d = (x, slr 2) xor y": wires x 0, y 1, d 2
 
