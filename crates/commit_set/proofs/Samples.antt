@@ -27,6 +27,15 @@ pub two-runs : plus (plus noRuns (by Sar 40)) (by Sar 40) .len ≡ 2
 unfolding plus meets
 two-runs = refl
 
+-- three uses and three terms, not one run: inlined; six uses and two terms: committed
+pub three-three-inlined : commits 2 (fresh (by Sll 1) ∷ fresh (by Sll 1) ∷ fresh (by Sll 1) ∷ []) (by Slr 2 ∷ identity ∷ identity ∷ []) ≡ false
+unfolding commits joinAll plus meets
+three-three-inlined = refl
+
+pub six-two-committed : commits 2 (fresh (by Sll 1) ∷ fresh (by Sll 1) ∷ fresh (by Sll 1) ∷ fresh (by Sll 1) ∷ fresh (by Sll 1) ∷ fresh (by Sll 1) ∷ []) (by Slr 2 ∷ identity ∷ []) ≡ true
+unfolding commits joinAll plus meets
+six-two-committed = refl
+
 -- ---- "And with a = (d, sll 1), d = (x, slr 2) xor y": wires x 0, y 1, d 2
 
 abbrev pub one-and : System

@@ -1,9 +1,10 @@
 -- A decision as one number, so that the decisions of all definitions are a list of numbers.
 --
---   decisionNumber x   0 for Commit; else a low bit 1, two bits of count, eight for each run's set and total, the outermost first, and the depth
---   decisionAt n       the decision that the number n stands for: every number stands for one
+--   decisionNumber x   0 for Commit; else a low bit 1 under the context's number
+--   contextNumber c    two bits of count, sixteen for each run, the outermost first, and the depth above; runNumber r, a set under a total
+--   decisionAt n       the decision that the number n stands for: every number stands for one; so contextAt, runAt
 --   stateAt l d        the decision of the definition d in the store l
---   Packs x            each part of x is within its bits
+--   Packs x            each part of x is within its bits; so ContextPacks, RunsPack, RunPacks
 --
 -- Assumes nothing.
 use Prim.Native.Nat.{ℕ, _+_, _*_, _/_, _%_, _<_}
@@ -18,7 +19,6 @@ use Rattle.commit_set.specs.declared.Decision.{Decision}
 use Rattle.commit_set.specs.declared.Decision.the-variants.{Commit, Inline}
 use Rattle.commit_set.specs.Runs.{runs, context}
 
--- a run's set and total, the total in the upper eight of sixteen bits
 abbrev pub runNumber : Run → ℕ
 runNumber r = r .variants + 256 * r .total
 

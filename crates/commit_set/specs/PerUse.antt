@@ -1,8 +1,10 @@
 -- The decision with a context on each use, word by word as 01 has it ("The decision", second paragraph).
 --
---   termAt p e j       the term j of the definition e
+--   noTerm, termAt     termAt p e j is the term j of the definition e
 --   atTerms g w j ts   the contexts of those of the terms ts that name w, g being the context of each by its number, the first number j
---   onUses p g d       the contexts of all uses of the definition d, g e j being that of the term j of the definition e
+--   atDefinitions      the same over definitions, g e j being the context of the term j of the definition e
+--   atConstraints p w  the contexts of the uses of w in other constraints
+--   onUses p g d       the contexts of all uses of the definition d
 --   Assigned           which definitions commit, and the context of each term, are what the rules say of each other
 --
 -- Assumes nothing.

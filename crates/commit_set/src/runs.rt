@@ -79,6 +79,7 @@ impl Run {
         self.grow(shift) < row.width
     }
 
+    // The run with `shift` folded in.
     pub fn absorb(self, shift: Shift) -> Run
         ensures { λ r. ⌜ r ≡ absorbed self shift ⌝ }
     {
