@@ -17,3 +17,4 @@ pub mod PerUse
 pub mod Examples
 pub mod Samples
 pub mod Storing
+pub mod Concluding

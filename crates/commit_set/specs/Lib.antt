@@ -5,3 +5,4 @@ pub mod Orders
 pub mod Paths
 pub mod PerUse
 pub mod Examples
+pub mod Grounds

@@ -1,4 +1,5 @@
 // Which definitions commit. Follows frontend/src/pass/fusion/commit_set.rs.
+pub mod grounds;
 pub mod numbers;
 pub mod runs;
 

@@ -1,10 +1,12 @@
 // A decision as one number, so that a store of decisions is a store of numbers.
 ghost use mathlib.Core.Path.{_≡_};
+ghost use Rattle.commit_set.specs.Decision.{below};
 ghost use Rattle.commit_set.specs.Numbers.{runNumber, runAt, contextNumber, contextAt, decisionNumber, decisionAt, ContextPacks, Packs};
 use crate::CommitSetCx;
 use crate::Decision;
 use crate::Run;
 use crate::ShiftSummary;
+use shift::Shift;
 
 fn run_number(run: Run) -> u64
     ensures { λ r. ⌜ r ≡ runNumber run ⌝ }
@@ -45,6 +47,17 @@ fn context_at(n: u64) -> CommitSetCx
         shifts,
         depth: (n / 17179869184) as usize,
     }
+}
+
+// The context of a term with `shift` of a definition whose decision stands in a store as the number `n`.
+pub fn context_below(n: u64, shift: Shift) -> CommitSetCx
+    ensures { λ r. ⌜ r ≡ below (decisionAt n) shift ⌝ }
+{
+    if n == 0 {
+        return CommitSetCx::new(shift);
+    }
+    let above = context_at(n / 2);
+    above.add(shift)
 }
 
 impl Decision {
