@@ -43,12 +43,17 @@ module _ (slots : ℕ) (p : System) (st st′ : ℕ → Decision) (s : Solves sl
           s f m ∙ decide-same p st st′ slots f (λ i n u. h i n (o .1 i n (ap (λ (j : ℕ). names p i j) (sym (eqb-true f d k)) ∙ u))) ∙ sym (s′ f m)
       go f m q false k = h f m (ap (λ (b : Bool). cond b true (done f)) (sym k) ∙ q)
 
+-- THE THEOREM. Where there is an order there is a solution, and it is the only one: deciding in that order, from any state, ends in it.
+pub order-found : (slots : ℕ) (p : System) (ds : List ℕ) (st : ℕ → Decision) → InOrder p (λ d. false) ds → Solves slots p (takeAll slots p st ds)
+order-found slots p ds st o = order-solves slots p ds (λ d. false) st o (taken-none slots p st)
+
+pub order-only : (slots : ℕ) (p : System) (ds : List ℕ) (st st′ : ℕ → Decision) → InOrder p (λ d. false) ds → Solves slots p st′ → (e : ℕ) → e < length (p .linears) → takeAll slots p st ds e ≡ st′ e
+order-only slots p ds st st′ o s =
+    along slots p (takeAll slots p st ds) st′ (order-found slots p ds st o) s ds (λ d. false) o (λ e l h. let z : _≡_ {A = ℕ} 0 1 = cc in absurd (omega arith))
+
 -- Two orders, from any two states, end in the same answers.
 pub any-order : (slots : ℕ) (p : System) (ds ds′ : List ℕ) (st st′ : ℕ → Decision) → InOrder p (λ d. false) ds → InOrder p (λ d. false) ds′ → (e : ℕ) → e < length (p .linears) → takeAll slots p st ds e ≡ takeAll slots p st′ ds′ e
-any-order slots p ds ds′ st st′ o o′ =
-    along slots p (takeAll slots p st ds) (takeAll slots p st′ ds′)
-    (order-solves slots p ds (λ d. false) st o (taken-none slots p st)) (order-solves slots p ds′ (λ d. false) st′ o′ (taken-none slots p st′))
-    ds (λ d. false) o (λ e l h. let z : _≡_ {A = ℕ} 0 1 = cc in absurd (omega arith))
+any-order slots p ds ds′ st st′ o o′ = order-only slots p ds st (takeAll slots p st′ ds′) o (order-found slots p ds′ st′ o′)
 
 -- The same context on each use: that of a term with the shift s of the definition e.
 pub any-order-use : (slots : ℕ) (p : System) (ds ds′ : List ℕ) (st st′ : ℕ → Decision) → InOrder p (λ d. false) ds → InOrder p (λ d. false) ds′ → (e : ℕ) → e < length (p .linears) → (s : Shift) → below (takeAll slots p st ds e) s ≡ below (takeAll slots p st′ ds′ e) s
