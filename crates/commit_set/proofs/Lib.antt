@@ -18,3 +18,5 @@ pub mod Examples
 pub mod Samples
 pub mod Storing
 pub mod Concluding
+pub mod Joining
+pub mod Searching

@@ -193,6 +193,12 @@ impl ShiftSummary {
 }
 
 impl CommitSetCx {
+    // The context of a definition that nothing uses.
+    pub const EMPTY: CommitSetCx = CommitSetCx {
+        shifts: ShiftSummary::EMPTY,
+        depth: 0,
+    };
+
     // The context of a use that starts afresh.
     pub fn new(shift: Shift) -> CommitSetCx
         ensures { λ r. ⌜ r ≡ fresh shift ⌝ }

@@ -1,7 +1,7 @@
-mod Laws
-mod Walks
-mod Walking
-mod Numbering
-mod Listing
-mod Circles
-mod Theorem
+pub mod Laws
+pub mod Walks
+pub mod Walking
+pub mod Numbering
+pub mod Listing
+pub mod Circles
+pub mod Theorem

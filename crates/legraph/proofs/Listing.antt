@@ -16,7 +16,7 @@ use Rattle.lower.specs.Model.{Definition, System, rowOperands, definitionOperan
 use Rattle.lower.specs.Accepted.{Once}
 use Rattle.lower.proofs.Laws.{all-left, all-right}
 use Rattle.legraph.specs.Uses.{User, constraint, definition, Use, useBy, usesIn, usesFrom, usesOf, dstOf, rhsOf}
-use Rattle.legraph.specs.Tables.{numbered, useNumber, userAt, useAt, nextAt, Graph, graph, push, noteAt, note, noteTerms, userNumber, noteFrom, noteAll, listed}
+use Rattle.legraph.specs.Tables.{numbered, useNumber, userAt, useAt, nextAt, Graph, graph, push, noteAt, note, noteTerms, userNumber, noteFrom, noteAll, listed, Linked}
 use Rattle.legraph.proofs.Numbering.{table-right, number-there, number-none, number-once}
 use Rattle.legraph.proofs.Laws.{push-room, note-opaque, note-defined}
 
@@ -37,11 +37,6 @@ use-back user shift next h k =
     let b : (shift + 65536 * user + 4294967296 * next) / 65536 ≡ user + 65536 * next = omega arith in
     let c : (user + 65536 * next) % 65536 ≡ user = omega arith in
     rw (a, b, c)
-
--- the places of uses that follow each other fall
-pub record Linked (us : List ℕ) (c : ℕ) : Type 0 where
-  pub inside : c ≤ length us
-  pub falls : (i : ℕ) → i < c → nextAt (getD us i 0) ≤ i
 
 -- a use past those that are linked changes no list
 listed-kept : (us : List ℕ) (c x f h : ℕ) → h ≤ c → ((i : ℕ) → i < c → nextAt (getD us i 0) ≤ i) → listed f (set us c x) h ≡ listed f us h
@@ -304,3 +299,33 @@ module _ (p : System) (m : ℕ) (once : Once (p .linears)) (small : All (λ (d :
             (λ d l. ap (λ (x : List Use). usesIn constraint (dstOf p d) rs ++ x) (append-nil (usesFrom 0 (dstOf p d) (p .linears)))) (b .holds);
         long = b .grown .uses-long ∙ a .grown .uses-long;
       }
+
+-- any fuel that is enough gives the same list
+pub listed-enough : (us : List ℕ) (c f g h : ℕ) → Linked us c → h ≤ c → h ≤ f → h ≤ g → listed f us h ≡ listed g us h
+unfolding listed
+listed-enough us c zero zero zero k l a b = refl
+listed-enough us c zero (suc g) zero k l a b = refl
+listed-enough us c (suc f) zero zero k l a b = refl
+listed-enough us c (suc f) (suc g) zero k l a b = refl
+listed-enough us c zero zero (suc i) k l a b = absurd (omega arith)
+listed-enough us c zero (suc g) (suc i) k l a b = absurd (omega arith)
+listed-enough us c (suc f) zero (suc i) k l a b = absurd (omega arith)
+listed-enough us c (suc f) (suc g) (suc i) k l a b =
+    let n : ℕ = nextAt (getD us i 0) in
+    let h : n ≤ i = k .falls i (omega arith) in
+    ap (λ (r : List Use). useAt (getD us i 0) ∷ r) (listed-enough us c f g n k (omega (arith, h, l)) (omega (arith, h, a)) (omega (arith, h, b)))
+
+-- a list is its first use and the list of the next
+pub listed-step : (us : List ℕ) (c h : ℕ) → Linked us c → 0 < h → h ≤ c
+    → listed h us h ≡ useAt (getD us (h - 1) 0) ∷ listed (nextAt (getD us (h - 1) 0)) us (nextAt (getD us (h - 1) 0))
+unfolding listed
+listed-step us c zero k p l = absurd (omega arith)
+listed-step us c (suc i) k p l =
+    let e : suc i - 1 ≡ i = omega arith in
+    let n : ℕ = nextAt (getD us i 0) in
+    let h : n ≤ i = k .falls i (omega arith) in
+    rw e (ap (λ (r : List Use). useAt (getD us i 0) ∷ r) (listed-enough us c i n n k (omega (arith, h, l)) h (omega arith)))
+
+pub listed-end : (us : List ℕ) (h : ℕ) → h ≡ 0 → listed h us h ≡ []
+unfolding listed
+listed-end us h e = rw e

@@ -9,9 +9,10 @@
 --   note               the graph with one more use in front of its definition's list
 --   noteTerms          the same for the terms of one user, the last one first; noteFrom, for operands; noteAll, for a system
 --   listed n us h      the uses from the place h on, n of them at most
+--   Linked us c        the places of the first c uses fall from one to the next
 --
 -- Assumes nothing.
-use Prim.Native.Nat.{ℕ, zero, suc, _+_, _*_, _/_, _%_}
+use Prim.Native.Nat.{ℕ, zero, suc, _+_, _*_, _/_, _%_, _≤_, _<_}
 use mathlib.Core.Bool.{Bool, true, false, cond}
 use mathlib.Core.List.{List, [], _∷_}
 use lib.Dec.{ltb, eqb}
@@ -91,3 +92,8 @@ unfoldable pub listed : ℕ → List ℕ → ℕ → List Use
 listed zero us h = []
 listed (suc n) us zero = []
 listed (suc n) us (suc i) = useAt (getD us i 0) ∷ listed n us (nextAt (getD us i 0))
+
+-- the first c uses: each is followed by one before it, or by none
+pub record Linked (us : List ℕ) (c : ℕ) : Type 0 where
+  pub inside : c ≤ length us
+  pub falls : (i : ℕ) → i < c → nextAt (getD us i 0) ≤ i
