@@ -20,3 +20,5 @@ pub mod Storing
 pub mod Concluding
 pub mod Joining
 pub mod Searching
+pub mod Ordering
+pub mod Stepping

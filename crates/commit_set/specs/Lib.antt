@@ -6,3 +6,5 @@ pub mod Paths
 pub mod PerUse
 pub mod Examples
 pub mod Grounds
+pub mod Answer
+pub mod Steps

@@ -3,6 +3,7 @@ pub mod grounds;
 pub mod numbers;
 pub mod runs;
 pub mod search;
+pub mod steps;
 
 // The longest chain of inlined definitions under which one of two or more terms may stand: past it operands would multiply.
 pub const MAX_DEPTH: usize = 6;
