@@ -22,3 +22,5 @@ pub mod Joining
 pub mod Searching
 pub mod Ordering
 pub mod Stepping
+pub mod Deciding
+pub mod Preparing
