@@ -24,3 +24,4 @@ pub mod Ordering
 pub mod Stepping
 pub mod Deciding
 pub mod Preparing
+pub mod Answers

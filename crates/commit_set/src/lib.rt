@@ -10,7 +10,7 @@ ghost use Rattle.lower.specs.Faults.{memoryFault};
 ghost use Rattle.legraph.specs.Tables.{numbered};
 ghost use Rattle.legraph.specs.Walked.{walkOf, rhsIn, There, Sound};
 ghost use Rattle.commit_set.specs.Orders.{InOrder};
-ghost use Rattle.commit_set.specs.Answer.{Solution};
+ghost use Rattle.commit_set.specs.Answer.{slotsFault, decisionFault, Solution, Decides};
 use legraph::Walk;
 use lower::Sizes;
 
@@ -126,4 +126,118 @@ fn decide_in_order<'a>(
         slots,
         &mut *decisions,
     );
+}
+
+// Decides every definition of a system that the checks have found nothing in, or answers 11 or 12.
+fn run_decide_commit_set<'a>(
+    old: &'a [u64],
+    new: &'a [u64],
+    ands: &[u64],
+    imuls: &[u64],
+    bmuls: &[u64],
+    zeros: &[u64],
+    dsts: &[u16],
+    rhss: &[u64],
+    z: Sizes,
+    slots: u8,
+    decisions: &mut [u64],
+) -> u8
+    requires { ⌜ decisionFault slots z (stores (now old) (now new) (now ands) (now imuls) (now bmuls) (now zeros) (now dsts) (now rhss)) ≡ 0 ⌝ }
+    ensures { λ r. ⌜ Decides slots z (stores (now (old .entry)) (now (new .entry)) (now (ands .entry)) (now (imuls .entry)) (now (bmuls .entry)) (now (zeros .entry)) (now (dsts .entry)) (now (rhss .entry))) (now (decisions .entry)) (now (decisions .exit)) r ⌝ }
+{
+    let n = z.linears;
+    let mut table = [0u16; lower::MAX_WIRES];
+    legraph::add_lin_defs(dsts, n, &mut table);
+    let mut order = [0u16; lower::MAX_DEFINITIONS];
+    let walked = walk(old, new, rhss, n, &table, &mut order);
+    if walked.circle {
+        return CIRCLE;
+    }
+    if decisions.len() < n {
+        return ROOM;
+    }
+    decide_in_order(
+        old,
+        new,
+        ands,
+        imuls,
+        bmuls,
+        zeros,
+        dsts,
+        rhss,
+        z,
+        &table,
+        &order,
+        walked.left,
+        slots,
+        &mut *decisions,
+    );
+    0
+}
+
+fn slots_fault(slots: u64) -> u8
+    ensures { λ r. ⌜ r ≡ slotsFault slots ⌝ }
+{
+    if slots == 1 {
+        return 0;
+    }
+    if slots == 2 {
+        return 0;
+    }
+    SLOTS
+}
+
+// Which definitions of a system commit, with so many slots a term: 0, and one number a definition in `decisions`; or a refusal, and
+// `decisions` as it was.
+pub fn decide<'a>(
+    old: &'a [u64],
+    new: &'a [u64],
+    ands: &[u64],
+    imuls: &[u64],
+    bmuls: &[u64],
+    zeros: &[u64],
+    dsts: &[u16],
+    rhss: &[u64],
+    z: Sizes,
+    slots: u64,
+    decisions: &mut [u64],
+) -> u8
+    ensures { λ r. ⌜ Decides slots z (stores (now (old .entry)) (now (new .entry)) (now (ands .entry)) (now (imuls .entry)) (now (bmuls .entry)) (now (zeros .entry)) (now (dsts .entry)) (now (rhss .entry))) (now (decisions .entry)) (now (decisions .exit)) r ⌝ }
+{
+    let fault = lower::check(
+        old,
+        new,
+        ands,
+        imuls,
+        bmuls,
+        zeros,
+        dsts,
+        rhss,
+        z,
+        lower::MAX_TERMS,
+    );
+    if fault != 0 {
+        return fault;
+    }
+    let wrong = slots_fault(slots);
+    if wrong != 0 {
+        return wrong;
+    }
+    let improper = lower::check_definitions(old, new, ands, imuls, bmuls, zeros, dsts, rhss, z);
+    if improper != 0 {
+        return improper;
+    }
+    run_decide_commit_set(
+        old,
+        new,
+        ands,
+        imuls,
+        bmuls,
+        zeros,
+        dsts,
+        rhss,
+        z,
+        slots as u8,
+        &mut *decisions,
+    )
 }
