@@ -11,6 +11,7 @@
 --   entriesOf p        the entries of a system, in tag order
 --   fileOf p           the file that a system is written as
 --   systemFrom n es    the system that entries in any order are: the list of each kind in file order
+--   sizesIn p          how many wires, rows and definitions a system has
 --   arity tag          how many operands a field of the tag has
 --   TermOk, EntryOk    what can stand in a file: wires below the wire count, valid shift numbers, a tag from 2 to 6 with its operands
 --   Sound n es         a file that is accepted: such entries, within the limits of 6
@@ -24,6 +25,7 @@ use lib.Dec.{eqb}
 use lib.ListN.{length}
 use Rattle.shift.specs.Shifts.{validNumber}
 use Rattle.operand.specs.Numbers.{Term, Operand}
+use Rattle.lower.specs.declared.Sizes.{Sizes}
 use Rattle.lower.specs.Lists.{All, keep, joined, sumOf}
 use Rattle.lower.specs.Model.{Row, Definition, System}
 use Rattle.lower.specs.Accepted.{Limits, MAX_TERMS}
@@ -110,6 +112,17 @@ systemFrom wires es =
       bmuls = rowsFrom 4 es;
       zeros = rowsFrom 5 es;
       linears = map definitionFrom (ofKind LINEAR es);
+    }
+
+abbrev pub sizesIn : System → Sizes
+sizesIn p =
+    record {
+      wires = p .wires;
+      ands = length (p .ands);
+      imuls = length (p .imuls);
+      bmuls = length (p .bmuls);
+      zeros = length (p .zeros);
+      linears = length (p .linears);
     }
 
 -- ---- sizes in bytes

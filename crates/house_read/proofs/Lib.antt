@@ -1,2 +1,6 @@
 pub mod Runs
 pub mod Answers
+pub mod Has
+pub mod Round
+pub mod Tallies
+pub mod Writes
