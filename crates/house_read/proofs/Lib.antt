@@ -4,3 +4,4 @@ pub mod Has
 pub mod Round
 pub mod Tallies
 pub mod Writes
+pub mod Exact
