@@ -14,7 +14,8 @@
 --   sizesIn p          how many wires, rows and definitions a system has
 --   arity tag          how many operands a field of the tag has
 --   TermOk, EntryOk    what can stand in a file: wires below the wire count, valid shift numbers, a tag from 2 to 6 with its operands
---   Sound n es         a file that is accepted: such entries, within the limits of 6
+--   Sound n es         entries of a file that is accepted: such ones, within the limits of 6
+--   InFormat s         the bytes s are the file of sound entries
 --
 -- Assumes nothing.
 use mathlib.Core.Path.{_≡_}
@@ -159,3 +160,9 @@ pub record EntryOk (wires : ℕ) (e : Entry) : Type 0 where
 pub record Sound (wires : ℕ) (es : List Entry) : Type 0 where
   pub entries-ok : All (EntryOk wires) es
   pub limits : Limits MAX_TERMS (systemFrom wires es)
+
+pub record InFormat (s : List ℕ) : Type 0 where
+  pub wires : ℕ
+  pub entries : List Entry
+  pub sound : Sound wires entries
+  pub bytes-are : fileBytes wires entries ≡ s

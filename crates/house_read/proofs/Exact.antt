@@ -286,23 +286,11 @@ module _ (s : List ℕ) (bytes : (i : ℕ) → getD s i 0 < 256) where
 
 -- ---- the whole file
 
--- the answer to a file: its own bytes, sound entries, and their counts
-pub record FileIs (s : List ℕ) (z : Sizes) (t : ℕ) : Type 0 where
-  pub bytes-are : fileBytes (z .wires) (entriesAt s (total z) 5) ≡ s
+-- what is accepted says sound entries, and counts them
+pub record EntriesAre (s : List ℕ) (z : Sizes) (t : ℕ) : Type 0 where
   pub sound : Sound (z .wires) (entriesAt s (total z) 5)
   pub sizes-are : z ≡ sizesIn (systemFrom (z .wires) (entriesAt s (total z) 5))
   pub terms-are : t ≡ length (termsOf (systemFrom (z .wires) (entriesAt s (total z) 5)))
-
--- the same of any wires and entries that are those of the answer
-file-is : (s : List ℕ) (z : Sizes) (t w : ℕ) (es : List Entry) → z .wires ≡ w → entriesAt s (total z) 5 ≡ es → fileBytes w es ≡ s → Sound w es
-    → z ≡ sizesIn (systemFrom w es) → t ≡ length (termsOf (systemFrom w es)) → FileIs s z t
-file-is s z t w es a b f k n m =
-    record {
-      bytes-are = rw (a, b) f;
-      sound = rw (a, b) k;
-      sizes-are = n ∙ ap (λ (v : ℕ). sizesIn (systemFrom v es)) (sym a) ∙ ap (λ (l : List Entry). sizesIn (systemFrom (z .wires) l)) (sym b);
-      terms-are = rw (a, b) m;
-    }
 
 within : (w : ℕ) (es : List Entry) → 0 < w → w ≤ 4096 → All (EntryOk w) es → Small (countsOf none es) → Limits MAX_TERMS (systemFrom w es)
 unfolding systemFrom
@@ -336,25 +324,48 @@ byte-at [] done i = omega arith
 byte-at (b ∷ s) (more h k) zero = h
 byte-at (b ∷ s) (more h k) (suc i) = byte-at s k i
 
-pub accepted-file : (s : List ℕ) (z : Sizes) (t : ℕ) → All (λ (b : ℕ). b < 256) s → readOf s ≡ Done z t → FileIs s z t
-accepted-file s z t b e =
-    let f = read-whole s z t e in
-    let g = f .first in
-    let r = f .run in
-    let w = u16At s 3 in
-    let n = r .n in
-    let es = entriesAt s n 5 in
-    let d : r .d ≡ countsOf none es = runs-counts (r .runs) in
-    let zs : z ≡ sizesOf w (countsOf none es) = r .sizes-are ∙ ap (sizesOf w) d in
-    let ws : z .wires ≡ w = ap (λ (x : Sizes). x .wires) zs in
-    let k : total z ≡ n = ap total (r .sizes-are) ∙ omega (arith, runs-total (r .runs)) in
-    let ok : All (EntryOk w) es = runs-ok (g .some) (r .runs) in
-    let small : Small (countsOf none es) = rw d at (runs-small (r .runs) (omega arith, (omega arith, omega arith))) in
-    let h = runs-bytes s (byte-at s b) (g .some) (r .runs) in
-    let one : getD s 0 0 ≡ 1 = omega (arith, g .head .low-ok, g .head .high-ok) in
-    let c = counts-are none es in
-    file-is s z t w es ws (ap (λ (j : ℕ). entriesAt s j 5) k)
-    (file-bytes s (byte-at s b) es one (g .size) (h .have) (h .size))
-    (record { entries-ok = ok; limits = within w es (g .some) (g .few) ok small })
-    (zs ∙ sizes-are w es)
-    (r .terms-are ∙ ap (λ (x : Counts). x .terms) d ∙ omega (arith, c .terms-are, terms-of w es ok))
+-- the same of any wires and entries that are those of the answer
+entries-be : (s : List ℕ) (z : Sizes) (t w : ℕ) (es : List Entry) → z .wires ≡ w → entriesAt s (total z) 5 ≡ es → Sound w es
+    → z ≡ sizesIn (systemFrom w es) → t ≡ length (termsOf (systemFrom w es)) → EntriesAre s z t
+entries-be s z t w es a b k n m =
+    record {
+      sound = rw (a, b) k;
+      sizes-are = n ∙ ap (λ (v : ℕ). sizesIn (systemFrom v es)) (sym a) ∙ ap (λ (l : List Entry). sizesIn (systemFrom (z .wires) l)) (sym b);
+      terms-are = rw (a, b) m;
+    }
+
+module _ (s : List ℕ) (z : Sizes) (t : ℕ) (e : readOf s ≡ Done z t) where
+  wires-be : z .wires ≡ u16At s 3
+  wires-be = ap (λ (x : Sizes). x .wires) (read-whole s z t e .run .sizes-are)
+
+  total-be : total z ≡ read-whole s z t e .run .n
+  total-be =
+      let r = read-whole s z t e .run in
+      ap total (r .sizes-are) ∙ omega (arith, runs-total (r .runs))
+
+  pub accepted-entries : EntriesAre s z t
+  accepted-entries =
+      let f = read-whole s z t e in
+      let g = f .first in
+      let r = f .run in
+      let w = u16At s 3 in
+      let es = entriesAt s (r .n) 5 in
+      let d : r .d ≡ countsOf none es = runs-counts (r .runs) in
+      let zs : z ≡ sizesOf w (countsOf none es) = r .sizes-are ∙ ap (sizesOf w) d in
+      let ok : All (EntryOk w) es = runs-ok (g .some) (r .runs) in
+      let small : Small (countsOf none es) = rw d at (runs-small (r .runs) (omega arith, (omega arith, omega arith))) in
+      let c = counts-are none es in
+      entries-be s z t w es wires-be (ap (λ (j : ℕ). entriesAt s j 5) total-be)
+      (record { entries-ok = ok; limits = within w es (g .some) (g .few) ok small })
+      (zs ∙ sizes-are w es)
+      (r .terms-are ∙ ap (λ (x : Counts). x .terms) d ∙ omega (arith, c .terms-are, terms-of w es ok))
+
+  -- and its bytes are those of the entries
+  pub accepted-file : All (λ (b : ℕ). b < 256) s → fileBytes (z .wires) (entriesAt s (total z) 5) ≡ s
+  accepted-file b =
+      let f = read-whole s z t e in
+      let g = f .first in
+      let r = f .run in
+      let h = runs-bytes s (byte-at s b) (g .some) (r .runs) in
+      let one : getD s 0 0 ≡ 1 = omega (arith, g .head .low-ok, g .head .high-ok) in
+      rw (wires-be, total-be) (file-bytes s (byte-at s b) (entriesAt s (r .n) 5) one (g .size) (h .have) (h .size))

@@ -5,3 +5,4 @@ pub mod Round
 pub mod Tallies
 pub mod Writes
 pub mod Exact
+pub mod Exactly
