@@ -6,3 +6,5 @@ pub mod Tallies
 pub mod Writes
 pub mod Exact
 pub mod Exactly
+pub mod Stored
+pub mod Backs
