@@ -8,3 +8,5 @@ pub mod Exact
 pub mod Exactly
 pub mod Stored
 pub mod Backs
+pub mod Files
+pub mod Sorted
