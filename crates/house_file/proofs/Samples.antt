@@ -1,6 +1,6 @@
 -- Reading at small files: what the definition gives is computed. Assumes nothing.
 use mathlib.Core.Path.{_≡_, refl}
-use mathlib.Core.List.{List, [], _∷_, _++_}
+use mathlib.Core.List.{List, [], _∷_}
 use Prim.Native.Nat.{ℕ}
 use Rattle.operand.specs.Numbers.{Term}
 use Rattle.lower.specs.declared.Sizes.{Sizes}

@@ -1,19 +1,19 @@
 -- Where the reader answers, the system that the stores hold afterwards is the one that the file says. Assumes nothing.
-use mathlib.Core.Path.{_≡_, refl, sym, ap, _∙_, subst}
+use mathlib.Core.Path.{_≡_, refl, sym, ap, _∙_}
 use mathlib.Core.Bool.{Bool, true, false, cond, _&&_}
 use mathlib.Core.List.{List, []}
-use Prim.Native.Nat.{ℕ, _+_, _*_, _≤_, _<_}
+use Prim.Native.Nat.{ℕ, _*_, _≤_, _<_}
 use native.Mathlib.Omega.{arith}
 use lib.Dec.{leb, ltb}
 use lib.ListN.{length, length-map}
 use borrow.Author.Tests.{leb-true, ltb-true}
 use Rattle.shift.specs.Shifts.{validNumber, valid, shiftAt}
-use Rattle.operand.specs.Numbers.{Term, Operand}
+use Rattle.operand.specs.Numbers.{Operand}
 use Rattle.lower.specs.declared.Sizes.{Sizes}
 use Rattle.lower.specs.Lists.{All}
 use Rattle.lower.specs.Stores.{Stores, stores, systemOf}
 use Rattle.lower.proofs.Laws.{all-imp}
-use Rattle.house_file.specs.Format.{Entry, LINEAR, ofKind, definitionFrom, systemFrom, sizesIn, TermOk, EntryOk, Sound}
+use Rattle.house_file.specs.Format.{Entry, LINEAR, ofKind, definitionFrom, systemFrom, TermOk, EntryOk}
 use Rattle.house_file.specs.Decoding.{entriesAt}
 use Rattle.house_file.specs.Reading.{ROOM, readOf, total}
 use Rattle.house_file.specs.declared.Read.{Read}

@@ -1,22 +1,20 @@
 -- A system's file, read into stores that have room, is the system again; the contract of `read` has one answer. Assumes nothing.
-use mathlib.Core.Path.{_≡_, refl, sym, ap, _∙_}
+use mathlib.Core.Path.{_≡_, sym, _∙_}
 use mathlib.Core.Bool.{true}
 use mathlib.Core.List.{List, []}
-use Prim.Native.Nat.{ℕ, _*_, _≤_}
-use lib.Dec.{leb}
+use Prim.Native.Nat.{ℕ}
 use lib.ListN.{length}
 use borrow.Author.Tests.{le-leb}
 use Rattle.lower.specs.declared.Sizes.{Sizes}
 use Rattle.lower.specs.Model.{System, termsOf}
 use Rattle.lower.specs.Accepted.{Shaped, Named, Shifted, Limits, MAX_TERMS}
 use Rattle.lower.specs.Stores.{stores, systemOf}
-use Rattle.house_file.specs.Format.{fileOf, entriesOf, systemFrom, sizesIn}
+use Rattle.house_file.specs.Format.{fileOf, systemFrom, sizesIn}
 use Rattle.house_file.specs.Decoding.{entriesAt}
-use Rattle.house_file.specs.Reading.{readOf, total}
+use Rattle.house_file.specs.Reading.{total}
 use Rattle.house_file.specs.declared.Read.{Read}
 use Rattle.house_file.specs.declared.Read.the-variants.{Done}
-use Rattle.house_fill.specs.Layout.{Filled}
-use Rattle.house_read.specs.Answer.{roomOf, withRoom, ReadIs}
+use Rattle.house_read.specs.Answer.{roomOf, ReadIs}
 use Rattle.house_read.proofs.Answers.{room-done}
 use Rattle.house_read.proofs.Writes.{file-back}
 use Rattle.house_read.proofs.Backs.{Roomy, read-back}

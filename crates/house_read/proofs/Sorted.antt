@@ -3,7 +3,7 @@
 use mathlib.Core.Path.{_≡_, refl, sym, ap, _∙_}
 use mathlib.Core.Bool.{Bool, true, false, cond}
 use mathlib.Core.List.{List, [], _∷_, _++_, map, append-nil}
-use Prim.Native.Nat.{ℕ, _<_}
+use Prim.Native.Nat.{ℕ}
 use native.Mathlib.Omega.{arith}
 use lib.Dec.{eqb}
 use lib.ListN.{length}
@@ -11,7 +11,7 @@ use borrow.Author.Tests.{eqb-true}
 use Rattle.operand.specs.Numbers.{Operand}
 use Rattle.lower.specs.declared.Sizes.{Sizes}
 use Rattle.lower.specs.Lists.{All, done, more, joined}
-use Rattle.house_file.specs.Format.{Entry, LINEAR, rowEntry, linearEntry, entriesOf, fileBytes, fileOf, ofKind, rowsFrom, definitionFrom, systemFrom, arity, EntryOk, Sound}
+use Rattle.house_file.specs.Format.{Entry, LINEAR, rowEntry, linearEntry, entriesOf, fileBytes, fileOf, ofKind, rowsFrom, definitionFrom, systemFrom, arity, EntryOk}
 use Rattle.house_file.specs.Decoding.{entriesAt}
 use Rattle.house_file.specs.Reading.{readOf, total}
 use Rattle.house_file.specs.declared.Read.the-variants.{Done}

@@ -1,24 +1,21 @@
 -- The stores that a file was read into hold the system that it says. Assumes nothing.
 use mathlib.Core.Path.{_≡_, refl, sym, ap, _∙_, subst}
-use mathlib.Core.Bool.{Bool, true, false, cond, _&&_}
+use mathlib.Core.Bool.{Bool, true, false, cond}
 use mathlib.Core.List.{List, [], _∷_, _++_, map, append-assoc, append-nil}
-use Prim.Native.Nat.{ℕ, zero, suc, _+_, _*_, _≤_, _<_}
+use Prim.Native.Nat.{ℕ, suc, _+_, _*_, _≤_, _<_}
 use native.Mathlib.Nat.{mul-suc, mul-zero, zero-add}
 use native.Mathlib.Omega.{arith}
-use lib.Dec.{eqb, leb, ltb}
+use lib.Dec.{eqb}
 use lib.ListN.{length, take, drop, length-append, length-map}
 use lib.Seq.{sets, sets-eq, take-at, drop-at}
-use borrow.Author.Tests.{eqb-true, leb-true, ltb-true}
-use Rattle.shift.specs.Shifts.{validNumber, valid, shiftAt}
-use Rattle.operand.specs.Numbers.{Term, Operand, termOf, termNumber, termsAt, operandAt, operandOf}
+use borrow.Author.Tests.{eqb-true}
+use Rattle.operand.specs.Numbers.{Term, Operand, termOf, termNumber, termsAt, operandOf}
 use Rattle.operand.specs.declared.WireOperand.{WireOperand}
 use Rattle.operand.proofs.Stored.{term-there, operand-there}
-use Rattle.lower.specs.declared.Sizes.{Sizes}
 use Rattle.lower.specs.Lists.{All, done, more, joined}
-use Rattle.lower.specs.Model.{Row, Definition, System}
-use Rattle.lower.specs.Stores.{stores, chunks, rowsOf, definitionsOf, systemOf}
-use Rattle.lower.proofs.Laws.{all-imp}
-use Rattle.house_file.specs.Format.{Entry, LINEAR, ofKind, rowsFrom, definitionFrom, systemFrom, sizesIn, arity, TermOk, EntryOk, Sound}
+use Rattle.lower.specs.Model.{Definition}
+use Rattle.lower.specs.Stores.{stores, rowsOf, definitionsOf, systemOf}
+use Rattle.house_file.specs.Format.{Entry, LINEAR, ofKind, rowsFrom, definitionFrom, systemFrom, sizesIn, arity}
 use Rattle.house_fill.specs.Layout.{termsCount, termsInAll, operandsLaid, termsLaid, numberFrom, numbersFrom, shown, listLaid, destinationsLaid}
 
 -- ---- terms and operands

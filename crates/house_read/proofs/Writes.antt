@@ -7,12 +7,12 @@ use native.Mathlib.Omega.{arith}
 use lib.Dec.{eqb}
 use lib.ListN.{length}
 use Rattle.operand.specs.Numbers.{Term, Operand}
-use Rattle.lower.specs.Lists.{All, done, more, joined, keep}
+use Rattle.lower.specs.Lists.{All, done, more, joined}
 use Rattle.lower.specs.Model.{Row, Definition, System, rowOperands, definitionOperands, operandsOf, termsOf}
 use Rattle.lower.specs.Accepted.{Shaped, Named, Shifted, ShiftsOf, Limits, MAX_TERMS}
-use Rattle.lower.proofs.Laws.{all-left, all-right, all-both, all-map, all-imp, map-join}
+use Rattle.lower.proofs.Laws.{all-left, all-right, all-both}
 use Rattle.house_file.specs.Format.{Entry, LINEAR, rowEntry, linearEntry, entriesOf, fileOf, ofKind, rowsFrom, definitionFrom, systemFrom, sizesIn, arity, TermOk, EntryOk, Sound}
-use Rattle.house_file.specs.Reading.{readOf, entriesRead, total}
+use Rattle.house_file.specs.Reading.{readOf, entriesRead}
 use Rattle.house_file.specs.declared.Read.the-variants.{Done}
 use Rattle.house_read.proofs.Tallies.{accepts}
 
