@@ -10,3 +10,4 @@ pub mod Stored
 pub mod Backs
 pub mod Files
 pub mod Sorted
+pub mod Refusals
