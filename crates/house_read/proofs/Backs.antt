@@ -77,7 +77,7 @@ module _ (t a i b o d r : ℕ) where
 valid-small : (n : ℕ) → validNumber n ≡ true → n < 65536
 valid-small n e = omega (arith, ltb-true n 512 (and-true (ltb n 512) (valid (shiftAt n)) e .0))
 
-entry-laid : (w : ℕ) → w ≤ 4096 → (e : Entry) → EntryOk w e → Laid e
+pub entry-laid : (w : ℕ) → w ≤ 4096 → (e : Entry) → EntryOk w e → Laid e
 entry-laid w m e k =
     record {
       fits = all-imp {P = λ (o : Operand). All (TermOk w) o} {Q = λ (o : Operand). All Narrow o} (λ o h. all-imp {P = TermOk w} {Q = Narrow} (λ t g. (omega (arith, g .wire-ok), valid-small (t .inner) (g .inner-ok))) o h) (e .operands) (k .operands-ok);

@@ -11,3 +11,4 @@ pub mod Backs
 pub mod Files
 pub mod Sorted
 pub mod Refusals
+pub mod Standings

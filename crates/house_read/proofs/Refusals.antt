@@ -1,6 +1,7 @@
 -- What a refusal says: it is the first fault in byte order, and each first fault is the refusal. Assumes nothing.
 use mathlib.Core.Path.{_≡_, refl, sym, ap, _∙_}
 use mathlib.Core.Bool.{Bool, true, false, cond}
+use mathlib.Core.Logic.{_↔_}
 use mathlib.Core.List.{List}
 use Prim.Native.Nat.{ℕ, zero, suc, _+_, _≤_, _<_}
 use native.Mathlib.Nat.{not-suc-le-zero}
@@ -83,15 +84,17 @@ module _ (s : List ℕ) (n j : ℕ) where
   read-by zero h = absurd (not-suc-le-zero h)
   read-by (suc f) h = refl
 
-  -- a refusal is the first fault
-  pub refusal-first : readOf s ≡ Refused n j → FirstFault s n j
+  refusal-first : readOf s ≡ Refused n j → FirstFault s n j
   unfolding readOf
   refusal-first e = first-by (wiresFault s) refl e
 
-  -- the first fault is the refusal
-  pub first-refusal : FirstFault s n j → readOf s ≡ Refused n j
+  first-refusal : FirstFault s n j → readOf s ≡ Refused n j
   unfolding readOf
   first-refusal (in-the-first f p e) = ap (λ (m : ℕ). readBy m s) f ∙ read-by n p ∙ ap (Refused n) (sym e)
   first-refusal (in-another f q) =
       let g = wires-are s f in
       ap (λ (m : ℕ). readBy m s) f ∙ by-fault s (u16At s 3) n j (length s) none 5 (omega arith) (omega (arith, g .head .inside, g .size)) q
+
+  -- a refusal is the first fault, and the first fault is the refusal
+  pub refusal-right : readOf s ≡ Refused n j ↔ FirstFault s n j
+  refusal-right = (refusal-first, first-refusal)

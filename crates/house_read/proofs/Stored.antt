@@ -74,7 +74,7 @@ pub record Laid (e : Entry) : Type 0 where
   pub fits : All (λ (o : Operand). All Narrow o) (e .operands)
   pub count : length (e .operands) ≡ arity (e .tag)
 
-linear-one : arity LINEAR ≡ 1
+pub linear-one : arity LINEAR ≡ 1
 unfolding arity
 linear-one = refl
 
@@ -151,14 +151,14 @@ length-by false t k e l L n h = h
 length-by true t k e l L n h =
     length-append (numbersFrom t (e .operands)) L ∙ omega (arith, numbers-length t (e .operands), n refl, h, mul-suc k (length l))
 
-list-length : (kind k : ℕ) → arity kind ≡ k → (t : ℕ) (es : List Entry) → All Laid es → length (listLaid kind t es) ≡ k * length (ofKind kind es)
+pub list-length : (kind k : ℕ) → arity kind ≡ k → (t : ℕ) (es : List Entry) → All Laid es → length (listLaid kind t es) ≡ k * length (ofKind kind es)
 unfolding listLaid shown
 list-length kind k a t [] done = sym (mul-zero k)
 list-length kind k a t (x ∷ es) (more g gs) =
     length-by (eqb (x .tag) kind) t k x (ofKind kind es) (listLaid kind (t + termsCount (x .operands)) es) (λ h. g .count ∙ ap arity (eqb-true _ _ h) ∙ a)
     (list-length kind k a (t + termsCount (x .operands)) es gs)
 
-sets-front : (l vs : List ℕ) → length vs ≤ length l → sets l 0 vs ≡ vs ++ drop (length vs) l
+pub sets-front : (l vs : List ℕ) → length vs ≤ length l → sets l 0 vs ≡ vs ++ drop (length vs) l
 sets-front l vs h = sets-eq vs l 0 (omega (arith, h)) ∙ ap (λ (k : ℕ). vs ++ drop k l) (zero-add (length vs))
 
 -- ---- the system
