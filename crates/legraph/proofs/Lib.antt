@@ -5,3 +5,4 @@ pub mod Numbering
 pub mod Listing
 pub mod Circles
 pub mod Theorem
+pub mod Samples
