@@ -1,7 +1,7 @@
 -- Deciding has one answer: the refusal, or the decisions of the only solution. With one slot or two they let patching keep to its slots.
 -- Assumes nothing.
-use mathlib.Core.Path.{_≡_, refl, sym, ap, _∙_, subst}
-use Prim.Native.Nat.{ℕ, zero, suc, _+_, _-_, _≤_, _<_}
+use mathlib.Core.Path.{_≡_, refl, sym, ap, _∙_}
+use Prim.Native.Nat.{ℕ, _+_, _-_, _≤_, _<_}
 use mathlib.Core.List.{List}
 use mathlib.Core.Bool.{Bool, true, false}
 use native.Mathlib.Omega.{arith}
@@ -10,13 +10,10 @@ use lib.Seq.{ext-getD, getD-drop}
 use lib.Dec.{ltb}
 use borrow.Author.Tests.{ltb-true, ltb-false}
 use Rattle.lower.specs.declared.Sizes.{Sizes}
-use Rattle.lower.specs.Model.{System}
-use Rattle.lower.specs.Accepted.{Reaches, NoCircle, Accepted}
+use Rattle.lower.specs.Accepted.{NoCircle, Accepted}
 use Rattle.lower.specs.Stores.{Stores, systemOf}
-use Rattle.lower.specs.Faults.{memoryFault, definitionFault, faultOf}
+use Rattle.lower.specs.Faults.{faultOf}
 use Rattle.lower.proofs.Explains.{accepted}
-use Rattle.commit_set.specs.declared.Decision.{Decision}
-use Rattle.commit_set.specs.Decision.{Solves}
 use Rattle.commit_set.specs.Numbers.{decisionNumber, stateAt}
 use Rattle.commit_set.specs.Answer.{decisionFault, Solution, Decides, refused, circular, short, decided}
 use Rattle.commit_set.proofs.Ordering.{solution-only}

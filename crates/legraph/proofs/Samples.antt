@@ -5,9 +5,9 @@ use mathlib.Core.List.{List, [], _∷_}
 use Prim.Native.Nat.{ℕ}
 use lib.ListN.{replicate}
 use Rattle.operand.specs.Numbers.{Term}
-use Rattle.lower.specs.Model.{Definition, System, rowOperands, definitionOperands}
-use Rattle.legraph.specs.Uses.{constraint, definition, usesIn, usesFrom, usesOf, rhsOf, dstOf}
-use Rattle.legraph.specs.Tables.{numbered, useAt, nextAt, graph, push, noteAt, noteTerms, noteFrom, noteAll, listed}
+use Rattle.lower.specs.Model.{Definition, System, rowOperands}
+use Rattle.legraph.specs.Uses.{constraint, definition, usesIn, usesFrom, usesOf, rhsOf}
+use Rattle.legraph.specs.Tables.{numbered}
 use Rattle.legraph.specs.Walked.{Walked, enter, over, closed, visit, walkFrom, walkOf, orderOf}
 use Rattle.legraph.proofs.Listing.{tableOf}
 

@@ -1,5 +1,5 @@
 -- The two kinds of users. Assumes nothing.
-use mathlib.Core.Path.{_≡_, _∙_}
+use mathlib.Core.Path.{_∙_}
 use Rattle.commit_set.specs.Numbers.{stateAt}
 use Rattle.commit_set.proofs.Searching.{in-constraint, in-definition}
 use borrow.Author.Needs.{needs}
