@@ -1,0 +1,4 @@
+pub mod Counting
+pub mod Storing
+pub mod Whole
+pub mod Answering
