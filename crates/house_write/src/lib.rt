@@ -1,8 +1,7 @@
 // The writer of the house file: the checks in memory, one pass that counts the bytes, and one that writes them.
 ghost use mathlib.Core.Path.{_≡_};
-ghost use lib.ListN.{length};
 ghost use Rattle.lower.specs.Stores.{stores};
-ghost use Rattle.house_write.specs.Write.{MAX_WRITTEN_TERMS, writeFault, WriteIs};
+ghost use Rattle.house_write.specs.Write.{writeFault, WriteIs};
 use lower::Sizes;
 
 mod count;
