@@ -1,13 +1,13 @@
 -- How many bytes the parts of a file have. Assumes nothing.
-use mathlib.Core.Path.{_≡_, refl, ap, _∙_}
+use mathlib.Core.Path.{_≡_, refl, _∙_}
 use mathlib.Core.Bool.{Bool, true, false, cond}
-use mathlib.Core.List.{List, [], _∷_, _++_}
-use Prim.Native.Nat.{ℕ, _+_, _*_, suc}
+use mathlib.Core.List.{List, [], _∷_}
+use Prim.Native.Nat.{ℕ, _+_, _*_}
 use native.Mathlib.Omega.{arith}
 use lib.Dec.{eqb}
 use lib.ListN.{length, length-append}
 use Rattle.operand.specs.Numbers.{Term, Operand}
-use Rattle.lower.specs.Lists.{sumOf, joined}
+use Rattle.lower.specs.Lists.{sumOf}
 use Rattle.house_file.specs.Format.{le16, termsBytes, operandsBytes, operandSize, Entry, LINEAR, payloadBytes, payloadSize, entryBytes, listBytes, fileBytes, fileSize}
 
 pub terms-size : (ts : List Term) → length (termsBytes ts) ≡ 6 * length ts

@@ -54,7 +54,9 @@ pub fn num(s: &[u8], at: usize) -> usize
     requires { ⌜ at < 2 ^ 63 ⌝ }
     ensures { λ r. ⌜ (r ≡ u16At (now (s .entry)) at) × (r < 65536) ⌝ }
 {
-    byte(s, at) + 256 * byte(s, at + 1)
+    let low = byte(s, at);
+    let high = byte(s, at + 1);
+    low + 256 * high
 }
 
 // How many operands a field of the tag has.

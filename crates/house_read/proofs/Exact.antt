@@ -1,30 +1,30 @@
 -- What is accepted is a file of the format: its bytes are those of the entries that it says, and they are sound. Assumes nothing.
 use mathlib.Core.Path.{_≡_, refl, sym, ap, _∙_, subst}
 use mathlib.Core.Bool.{Bool, true, false, cond}
-use mathlib.Core.List.{List, [], _∷_, _++_, map}
+use mathlib.Core.List.{List, [], _∷_, _++_}
 use Prim.Native.Nat.{ℕ, zero, suc, _+_, _*_, _/_, _%_, _≤_, _<_}
 use native.Mathlib.Nat.{add-zero}
 use native.Mathlib.Omega.{arith}
 use lib.ListN.{length, getD, length-append, length-map}
 use lib.Dec.{eqb, ltb}
-use borrow.Author.Tests.{ltb-false, ltb-true, eqb-true, eqb-false}
+use borrow.Author.Tests.{ltb-false, ltb-true, eqb-true}
 use Rattle.shift.specs.Shifts.{validNumber}
 use Rattle.operand.specs.Numbers.{Term, Operand}
 use Rattle.lower.specs.declared.Sizes.{Sizes}
-use Rattle.lower.specs.Lists.{All, done, more, joined}
-use Rattle.lower.specs.Model.{System, termsOf}
+use Rattle.lower.specs.Lists.{All, done, more}
+use Rattle.lower.specs.Model.{termsOf}
 use Rattle.lower.specs.Accepted.{Limits, MAX_TERMS}
 use Rattle.lower.specs.Faults.{SHAPE, WIRE, orElse, unless, firstFault, termFault}
 use Rattle.lower.proofs.Firsts.{else-first, else-second, unless-holds}
 use Rattle.house_file.specs.Format.{le16, termsBytes, operandsBytes, Entry, LINEAR, payloadBytes, fileBytes, ofKind, definitionFrom, systemFrom, sizesIn, arity, TermOk, EntryOk, Sound}
-use Rattle.house_file.specs.Decoding.{u16At, termAt, termsAt, operandNext, operandsAt, operandsNext, operandsTerms, fieldEnd, operandsStart, entryAt, entriesAt}
+use Rattle.house_file.specs.Decoding.{u16At, termAt, termsAt, operandNext, operandsAt, operandsNext, fieldEnd, operandsStart, entryAt, entriesAt}
 use Rattle.house_file.specs.Reading.{END, operandFault, operandsFault, destinationFault, payloadFault, counted, Small, countsAfter, none, sizesOf, total, readOf}
 use Rattle.house_file.specs.declared.Counts.{Counts}
 use Rattle.house_file.specs.declared.Read.the-variants.{Done}
 use Rattle.house_file.proofs.Sizes.{terms-size}
-use Rattle.house_fill.specs.Layout.{termsCount, termsInAll}
+use Rattle.house_fill.specs.Layout.{termsCount}
 use Rattle.house_fill.proofs.Fills.{terms-length, count-operands}
-use Rattle.house_read.proofs.Has.{Has, has-fits, has-both, has-all}
+use Rattle.house_read.proofs.Has.{Has, has-both, has-all}
 use Rattle.house_read.proofs.Round.{countsOf, restBytes, rest-more, rest-none, rest-size, total-counted}
 use Rattle.house_read.proofs.Tallies.{counts-are, terms-of, sizes-are}
 use Rattle.house_read.proofs.Runs.{Runs, ended, onward, entry-field, end-field, runs-small, read-whole}

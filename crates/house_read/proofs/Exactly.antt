@@ -1,5 +1,6 @@
 -- The reader accepts a byte string exactly when it is a file of the format. Assumes nothing.
 use mathlib.Core.Path.{_≡_, ap, sym, _∙_}
+use mathlib.Core.Logic.{_↔_}
 use mathlib.Core.List.{List}
 use Prim.Native.Nat.{ℕ, _<_}
 use lib.ListN.{length}
@@ -19,7 +20,7 @@ pub record Accepts (s : List ℕ) : Type 0 where
   pub terms : ℕ
   pub is : readOf s ≡ Done sizes terms
 
-pub exactly : (s : List ℕ) → All (λ (b : ℕ). b < 256) s → (Accepts s → InFormat s) × (InFormat s → Accepts s)
+pub exactly : (s : List ℕ) → All (λ (b : ℕ). b < 256) s → Accepts s ↔ InFormat s
 exactly s b = (
   λ a. record {
     wires = a .sizes .wires;

@@ -6,3 +6,9 @@ pub mod Tallies
 pub mod Writes
 pub mod Exact
 pub mod Exactly
+pub mod Stored
+pub mod Backs
+pub mod Files
+pub mod Sorted
+pub mod Refusals
+pub mod Standings

@@ -7,7 +7,7 @@ use native.Mathlib.Nat.{add-zero}
 use native.Mathlib.Omega.{arith}
 use lib.ListN.{length, getD, length-append}
 use lib.Dec.{eqb, ltb}
-use borrow.Author.Tests.{lt-ltb, le-ltb, eq-eqb, ne-eqb, eqb-false}
+use borrow.Author.Tests.{lt-ltb, le-ltb, eq-eqb, eqb-false}
 use Rattle.operand.specs.Numbers.{Term, Operand}
 use Rattle.lower.specs.Lists.{All, done, more}
 use Rattle.lower.specs.Accepted.{MAX_WIRES}
@@ -16,7 +16,6 @@ use Rattle.house_file.specs.Format.{le16, termsBytes, operandsBytes, Entry, LIN
 use Rattle.house_file.specs.Decoding.{u16At, termAt, termsAt, operandNext, operandsAt, operandsNext, operandsTerms, fieldEnd, operandsStart, entryAt, entriesAt}
 use Rattle.house_file.specs.Reading.{headFault, operandFault, operandsFault, destinationFault, payloadFault, counted, fullFault, Small, turnOf, readFrom, none, readOf, doneOf, total, sizesOf, oneIf}
 use Rattle.house_file.specs.declared.Counts.{Counts}
-use Rattle.house_file.specs.declared.Read.{Read}
 use Rattle.house_file.specs.declared.Turn.the-variants.{Stop, Go}
 use Rattle.house_file.proofs.Sizes.{terms-size}
 use Rattle.house_scan.specs.Parts.{closingOf, entryOf}

@@ -1,18 +1,17 @@
 -- What entries count is what their system has: lists by kind, and all terms. Assumes nothing.
-use mathlib.Core.Path.{_≡_, refl, sym, ap, _∙_, subst}
+use mathlib.Core.Path.{_≡_, refl, _∙_, subst}
 use mathlib.Core.Bool.{Bool, true, false, cond}
 use mathlib.Core.List.{List, [], _∷_, _++_, map}
 use Prim.Native.Nat.{ℕ, zero, suc, _+_, _≤_}
 use native.Mathlib.Omega.{arith}
 use lib.Dec.{eqb}
 use lib.ListN.{length, length-append, length-map}
-use Rattle.operand.specs.Numbers.{Term, Operand}
+use Rattle.operand.specs.Numbers.{Operand}
 use Rattle.lower.specs.declared.Sizes.{Sizes}
 use Rattle.lower.specs.Lists.{All, done, more, joined, sumOf}
-use Rattle.lower.specs.Model.{Row, Definition, System, rowOperands, definitionOperands, operandsOf, termsOf}
-use Rattle.lower.specs.Accepted.{Limits, MAX_TERMS}
+use Rattle.lower.specs.Model.{Definition, rowOperands, definitionOperands, termsOf}
 use Rattle.house_file.specs.Format.{Entry, LINEAR, ofKind, rowsFrom, definitionFrom, systemFrom, sizesIn, EntryOk, Sound, fileBytes}
-use Rattle.house_file.specs.Reading.{counted, Small, none, sizesOf, oneIf, readOf, total}
+use Rattle.house_file.specs.Reading.{counted, Small, none, sizesOf, readOf, total}
 use Rattle.house_file.specs.Decoding.{entriesAt}
 use Rattle.house_file.specs.declared.Counts.{Counts}
 use Rattle.house_file.specs.declared.Read.the-variants.{Done}

@@ -7,12 +7,13 @@ use native.Mathlib.Omega.{arith}
 use lib.Dec.{eqb}
 use lib.ListN.{length}
 use Rattle.operand.specs.Numbers.{Term, Operand}
-use Rattle.lower.specs.Lists.{All, done, more, joined, keep}
+use Rattle.lower.specs.Lists.{All, done, more, joined}
 use Rattle.lower.specs.Model.{Row, Definition, System, rowOperands, definitionOperands, operandsOf, termsOf}
 use Rattle.lower.specs.Accepted.{Shaped, Named, Shifted, ShiftsOf, Limits, MAX_TERMS}
-use Rattle.lower.proofs.Laws.{all-left, all-right, all-both, all-map, all-imp, map-join}
+use Rattle.lower.proofs.Laws.{all-left, all-right, all-both}
+use Rattle.lower.proofs.Alls.{all-zip, all-unjoin}
 use Rattle.house_file.specs.Format.{Entry, LINEAR, rowEntry, linearEntry, entriesOf, fileOf, ofKind, rowsFrom, definitionFrom, systemFrom, sizesIn, arity, TermOk, EntryOk, Sound}
-use Rattle.house_file.specs.Reading.{readOf, entriesRead, total}
+use Rattle.house_file.specs.Reading.{readOf, entriesRead}
 use Rattle.house_file.specs.declared.Read.the-variants.{Done}
 use Rattle.house_read.proofs.Tallies.{accepts}
 
@@ -100,15 +101,6 @@ module _ (p : System) where
 
 -- ---- what holds of all terms holds of each entry's
 
-module _ {A : Type 0} (P : A → Type 0) where
-  pub all-apart : (l : List (List A)) → All P (joined l) → All (λ (x : List A). All P x) l
-  all-apart [] h = done
-  all-apart (x ∷ l) h = more (all-left P x (joined l) h) (all-apart l (all-right P x (joined l) h))
-
-all-with : {A : Type 0} {P Q R : A → Type 0} → ((x : A) → P x → Q x → R x) → (l : List A) → All P l → All Q l → All R l
-all-with f [] done done = done
-all-with f (x ∷ l) (more p ps) (more q qs) = more (f x p q) (all-with f l ps qs)
-
 abbrev OperandOk : ℕ → Operand → Type 0
 OperandOk w o = All (TermOk w) o
 
@@ -131,10 +123,10 @@ linears-ok w (d ∷ l) (more s ss) (more o os) =
 module _ (p : System) (shaped : Shaped p) (named : Named p) (shifted : Shifted p) (limits : Limits MAX_TERMS p) where
   terms-ok : All (TermOk (p .wires)) (termsOf p)
   terms-ok =
-      all-with {P = λ (t : Term). t .wire < p .wires} {Q = ShiftsOf} (λ t n s. record { wire-ok = n; inner-ok = s .0; outer-ok = s .1 }) (termsOf p) (named .terms-named) shifted
+      all-zip {P = λ (t : Term). t .wire < p .wires} {Q = ShiftsOf} (λ t n s. record { wire-ok = n; inner-ok = s .0; outer-ok = s .1 }) (termsOf p) (named .terms-named) shifted
 
   operands-ok : All (OperandOk (p .wires)) (operandsOf p)
-  operands-ok = all-apart (TermOk (p .wires)) (operandsOf p) terms-ok
+  operands-ok = all-unjoin (TermOk (p .wires)) (operandsOf p) terms-ok
 
   entries-good : All (EntryOk (p .wires)) (entriesOf p)
   unfolding entriesOf rowOperands definitionOperands arity

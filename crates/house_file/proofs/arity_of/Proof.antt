@@ -1,10 +1,7 @@
 -- Each return is the number of operands of the tags that reach it. Assumes nothing.
-use borrow.Author.Needs.{needs}
-use mathlib.Core.Path.{_≡_, refl, sym, ap, _∙_}
-use Prim.Native.Nat.{ℕ, _+_, _*_, _-_, _≤_, _<_}
-use denote.Ref.{now}
+use Prim.Native.Nat.{_-_}
 use native.Mathlib.Omega.{arith}
-use borrow.Author.Tests.{lt-ltb, le-ltb, le-leb, lt-leb, eq-eqb, ne-eqb}
+use borrow.Author.Tests.{eq-eqb, ne-eqb}
 use Rattle.house_file.proofs.arity_of.Statement.{statement}
 use Rattle.house_file.proofs.arity_of.Tie as tie
 use Rattle.house_file.proofs.arity_of.Reads as reads

@@ -1,10 +1,8 @@
 -- The destination of a Linear has two bytes; other payloads begin with their operands. Assumes nothing.
 use borrow.Author.Needs.{needs}
-use mathlib.Core.Path.{_≡_, refl, sym, ap, _∙_}
-use Prim.Native.Nat.{ℕ, _+_, _*_, _-_, _≤_, _<_}
-use denote.Ref.{now}
+use Prim.Native.Nat.{_-_}
 use native.Mathlib.Omega.{arith}
-use borrow.Author.Tests.{lt-ltb, le-ltb, le-leb, lt-leb, eq-eqb, ne-eqb}
+use borrow.Author.Tests.{eq-eqb, ne-eqb}
 use Rattle.house_file.proofs.start_of.Statement.{statement}
 use Rattle.house_file.proofs.start_of.Tie as tie
 use Rattle.house_file.proofs.start_of.Reads as reads
