@@ -2,3 +2,4 @@ pub mod Counting
 pub mod Storing
 pub mod Whole
 pub mod Answering
+pub mod Once
