@@ -1,4 +1,6 @@
 // Files at the limits, made by loops, written, and read again.
+ghost use mathlib.Core.Path.{_≡_};
+ghost use lib.ListN.{set};
 use crate::pass;
 use crate::tally;
 use crate::tally::Tally;
@@ -222,7 +224,7 @@ fn sums_case(i: usize) -> Case {
     refused(counts(7, 256, 256, 256, 257, 1024), 1, 1, 6)
 }
 
-fn case(i: usize) -> Case {
+fn limit_at(i: usize) -> Case {
     if i < 9 {
         return terms_case(i);
     }
@@ -235,44 +237,54 @@ fn case(i: usize) -> Case {
     sums_case(i)
 }
 
-// Terms that name wires below the count, with shifts that there are.
+// The `i`-th term: it names a wire below the count, with shifts that there are.
+fn term_at(i: usize, wires: usize) -> u64 {
+    if wires == 0 {
+        return 0;
+    }
+    operand::term::number(
+        Wire((i % wires % 65536) as u16),
+        (i % 256) as u16,
+        (i / 7 % 256) as u16,
+    )
+}
+
 fn fill_terms(store: &mut [u64], wires: usize) {
     let mut i = 0;
     while i < store.len() {
-        if 0 < wires {
-            if wires < 65536 {
-                store[i] = operand::term::number(
-                    Wire((i % wires) as u16),
-                    (i % 256) as u16,
-                    (i / 7 % 256) as u16,
-                );
-            }
-        }
+        store[i] = term_at(i, wires);
         i = i + 1;
     }
 }
 
-// Operands of so many terms, at the front of the terms.
+// An operand of so many terms, at the front of the terms.
+fn operand_at(i: usize, len: usize) -> u64 {
+    operand::valid::number(WireOperand {
+        start: (i % 97) as u32,
+        len: (len % 65536) as u32,
+        new: false,
+    })
+}
+
 fn fill_operands(store: &mut [u64], len: usize) {
     let mut i = 0;
     while i < store.len() {
-        if len < 65536 {
-            store[i] = operand::valid::number(WireOperand {
-                start: (i % 97) as u32,
-                len: len as u32,
-                new: false,
-            });
-        }
+        store[i] = operand_at(i, len);
         i = i + 1;
     }
+}
+
+fn wire_at(i: usize, wires: usize) -> u16 {
+    if wires == 0 {
+        return 0;
+    }
+    (i % wires % 65536) as u16
 }
 
 fn fill_wires(store: &mut [u16], wires: usize) {
     let mut i = 0;
     while i < store.len() {
-        if 0 < wires {
-            store[i] = (i % wires % 65536) as u16;
-        }
+        store[i] = wire_at(i, wires);
         i = i + 1;
     }
 }
@@ -305,7 +317,7 @@ struct Made {
     length: usize,
 }
 
-fn made(w: Written) -> Made {
+fn by_answer(w: Written) -> Made {
     match w {
         Written::Done { length } => Made {
             number: 0,
@@ -336,9 +348,8 @@ fn make(c: Case, out: &mut [u8]) -> Made {
         &mut dsts,
         &mut rhss,
     );
-    made(house::write(
+    by_answer(pass::store(
         &terms,
-        &terms[0..0],
         &ands,
         &imuls,
         &bmuls,
@@ -350,30 +361,45 @@ fn make(c: Case, out: &mut [u8]) -> Made {
     ))
 }
 
+fn put(file: &mut [u8], at: usize, v: u8)
+    ensures { λ _. ⌜ now (file .exit) ≡ set (now (file .entry)) at v ⌝ }
+{
+    if at < file.len() {
+        file[at] = v;
+    }
+}
+
 // Puts the first `n` bytes of the records in once more, before the end field. The length then.
-fn grow(file: &mut [u8], length: usize, n: usize) -> usize {
-    if file.len() < length {
+fn grow(file: &mut [u8], end: usize, n: usize) -> usize {
+    if file.len() < end {
         return 0;
     }
-    if file.len() - length < n {
+    if file.len() - end < n {
         return 0;
     }
-    if length < 8 + n {
-        return length;
+    if end < 8 {
+        return end;
+    }
+    if end - 8 < n {
+        return end;
     }
     let mut i = 0;
     while i < n {
-        file[length - 3 + i] = file[5 + i];
+        let v = file[5 + i];
+        put(&mut *file, end - 3 + i, v);
         i = i + 1;
     }
-    file[length + n - 3] = 7;
-    file[length + n - 2] = 0;
-    file[length + n - 1] = 0;
-    length + n
+    put(&mut *file, end + n - 3, 7);
+    put(&mut *file, end + n - 2, 0);
+    put(&mut *file, end + n - 1, 0);
+    end + n
 }
 
 // Where the field starts that a file cut at `end` lacks the end of.
 fn cut_field(file: &[u8], end: usize) -> usize {
+    if file.len() < end {
+        return 0;
+    }
     let mut at = 0;
     let mut left = end;
     while 0 < left {
@@ -398,9 +424,10 @@ fn cuts(file: &[u8], n: usize, two: &mut [u8], first: Tally) -> Tally {
         return tally::count(t, false);
     }
     while end < n {
-        let seen = pass::pass(&file[0..end], &mut *two);
-        t = tally::count(t, pass::same(seen, pass::refused(1, cut_field(file, end))));
+        let k = end;
         end = end + 1;
+        let seen = pass::pass(&file[0..k], &mut *two);
+        t = tally::count(t, pass::same(seen, pass::refused(1, cut_field(file, k))));
     }
     t
 }
@@ -446,7 +473,7 @@ fn one_case(c: Case, one: &mut [u8], two: &mut [u8], t: Tally) -> Tally {
 
 // The small file, cut.
 fn small(one: &mut [u8], two: &mut [u8], t: Tally) -> Tally {
-    let m = make(case(0), &mut *one);
+    let m = make(limit_at(0), &mut *one);
     cuts(&*one, m.length, &mut *two, t)
 }
 
@@ -454,7 +481,7 @@ pub fn limits(first: Tally, one: &mut [u8], two: &mut [u8]) -> Tally {
     let mut t = small(&mut *one, &mut *two, first);
     let mut i = 0;
     while i < CASES {
-        t = one_case(case(i), &mut *one, &mut *two, t);
+        t = one_case(limit_at(i), &mut *one, &mut *two, t);
         i = i + 1;
     }
     t

@@ -1,6 +1,9 @@
 // Replays the vectors of the house file, and writes and reads files at the limits. The input is the number of vectors, then each: the
 // length of a file, the file, and what it has to be answered with: number, offset, wires, five counts, terms. All numbers have four bytes.
 // What is printed: how many checks were right and wrong, and a digest of all that was read.
+ghost use mathlib.Core.Path.{_≡_};
+ghost use Prim.Native.Nat.{_<_};
+ghost use Rattle.replay_house.specs.Replay.{numberAt};
 use libc::STDIN_FILENO;
 use libc::STDOUT_FILENO;
 use pass::Seen;
@@ -10,9 +13,14 @@ mod limits;
 mod pass;
 mod tally;
 
-// A number of four bytes.
-fn number(input: &[u8], at: usize) -> usize {
-    if input.len() < at {
+// A number of four bytes, 0 past the end.
+fn number(input: &[u8], at: usize) -> usize
+    ensures { λ r. ⌜ (r ≡ numberAt (now (input .entry)) at) × (r < 4294967296) ⌝ }
+{
+    if input.len() < 4 {
+        return 0;
+    }
+    if input.len() - 4 < at {
         return 0;
     }
     house_file::num(input, at) + 65536 * house_file::num(input, at + 2)

@@ -1,4 +1,7 @@
 // A file read, and what was read written.
+ghost use mathlib.Core.List.{[]};
+ghost use Rattle.lower.specs.Stores.{stores};
+ghost use Rattle.house_write.specs.Write.{WriteIs};
 use crate::tally;
 use crate::tally::Tally;
 use house_file::Read;
@@ -101,6 +104,34 @@ fn written(z: Sizes, terms: usize, w: Written) -> Seen {
     }
 }
 
+// The system that stands in the old store.
+pub fn store(
+    terms: &[u64],
+    ands: &[u64],
+    imuls: &[u64],
+    bmuls: &[u64],
+    zeros: &[u64],
+    dsts: &[u16],
+    rhss: &[u64],
+    z: Sizes,
+    out: &mut [u8],
+) -> Written
+    ensures { λ r. ⌜ WriteIs z (stores (now (terms .entry)) [] (now (ands .entry)) (now (imuls .entry)) (now (bmuls .entry)) (now (zeros .entry)) (now (dsts .entry)) (now (rhss .entry))) (now (out .entry)) r (now (out .exit)) ⌝ }
+{
+    house::write(
+        terms,
+        &terms[0..0],
+        ands,
+        imuls,
+        bmuls,
+        zeros,
+        dsts,
+        rhss,
+        z,
+        out,
+    )
+}
+
 pub fn pass(file: &[u8], out: &mut [u8]) -> Seen {
     let mut terms = [0u64; 8192];
     let mut ands = [0u64; 3072];
@@ -125,9 +156,8 @@ pub fn pass(file: &[u8], out: &mut [u8]) -> Seen {
             sizes,
             terms: count,
         } => {
-            let w = house::write(
+            let w = store(
                 &terms,
-                &terms[0..0],
                 &ands,
                 &imuls,
                 &bmuls,

@@ -51,7 +51,7 @@ pub fn bytes(t: Tally, file: &[u8]) -> Tally {
     let mut digest = t.digest;
     let mut i = 0;
     while i < file.len() {
-        digest = mixed(digest, file[i] as u64);
+        digest = mixed(digest, house_file::byte(file, i) as u64);
         i = i + 1;
     }
     Tally {
