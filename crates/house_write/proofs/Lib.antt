@@ -1,0 +1,5 @@
+pub mod Counting
+pub mod Storing
+pub mod Whole
+pub mod Answering
+pub mod Once

@@ -1,0 +1,62 @@
+// Checks counted, and a digest of what was read.
+use crate::pass::Seen;
+
+pub struct Tally {
+    pub right: u64,
+    pub wrong: u64,
+    pub digest: u64,
+}
+
+pub fn none() -> Tally {
+    Tally {
+        right: 0,
+        wrong: 0,
+        digest: 0,
+    }
+}
+
+pub fn count(t: Tally, is_right: bool) -> Tally {
+    if is_right {
+        return Tally {
+            right: std::num::wrapping_add_u64(t.right, 1),
+            wrong: t.wrong,
+            digest: t.digest,
+        };
+    }
+    Tally {
+        right: t.right,
+        wrong: std::num::wrapping_add_u64(t.wrong, 1),
+        digest: t.digest,
+    }
+}
+
+pub fn mixed(digest: u64, n: u64) -> u64 {
+    (digest % 1000000007 * 31 + n % 1000000007) % 1000000007
+}
+
+fn with(t: Tally, n: u64) -> Tally {
+    Tally {
+        right: t.right,
+        wrong: t.wrong,
+        digest: mixed(t.digest, n),
+    }
+}
+
+pub fn answer(t: Tally, seen: Seen) -> Tally {
+    with(with(t, seen.number as u64), seen.at as u64)
+}
+
+// All bytes of a file.
+pub fn bytes(t: Tally, file: &[u8]) -> Tally {
+    let mut digest = t.digest;
+    let mut i = 0;
+    while i < file.len() {
+        digest = mixed(digest, house_file::byte(file, i) as u64);
+        i = i + 1;
+    }
+    Tally {
+        right: t.right,
+        wrong: t.wrong,
+        digest: digest,
+    }
+}
