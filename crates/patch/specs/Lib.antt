@@ -1,0 +1,3 @@
+pub mod Lists
+pub mod Expansion
+pub mod Patch
