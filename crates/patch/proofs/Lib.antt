@@ -1,1 +1,5 @@
-
+pub mod Parts
+pub mod Chains
+pub mod Steady
+pub mod Definitions
+pub mod NeverOver
