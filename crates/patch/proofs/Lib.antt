@@ -3,3 +3,4 @@ pub mod Chains
 pub mod Steady
 pub mod Definitions
 pub mod NeverOver
+pub mod Counting

@@ -1,3 +1,4 @@
 pub mod Lists
 pub mod Expansion
 pub mod Patch
+pub mod Counts
