@@ -4,3 +4,4 @@ pub mod Steady
 pub mod Definitions
 pub mod NeverOver
 pub mod Counting
+pub mod Samples
