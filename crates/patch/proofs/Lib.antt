@@ -5,3 +5,4 @@ pub mod Definitions
 pub mod NeverOver
 pub mod Counting
 pub mod Samples
+pub mod Writing

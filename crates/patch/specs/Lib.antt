@@ -2,3 +2,4 @@ pub mod Lists
 pub mod Expansion
 pub mod Patch
 pub mod Counts
+pub mod Steps
