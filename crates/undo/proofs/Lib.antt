@@ -1,0 +1,4 @@
+pub mod Xor
+pub mod Values
+pub mod Expanded
+pub mod Filling

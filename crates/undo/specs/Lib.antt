@@ -1,0 +1,2 @@
+pub mod FillBack
+pub mod Demand3
