@@ -2,8 +2,7 @@
 use mathlib.Core.Path.{_≡_, refl, sym, _∙_}
 use mathlib.Core.Option.{Option, none, some}
 use Prim.Native.Nat.{ℕ, zero, suc}
-use Rattle.operand.specs.Numbers.{Term, Operand}
-use Rattle.lower.specs.Lists.{All}
+use Rattle.operand.specs.Numbers.{Operand}
 use Rattle.lower.specs.Values.{value}
 use Rattle.patch.specs.Expansion.{Within}
 use Rattle.patch.proofs.Parts.{all-each}

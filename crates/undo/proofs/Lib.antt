@@ -2,3 +2,6 @@ pub mod Xor
 pub mod Values
 pub mod Expanded
 pub mod Filling
+pub mod Undo
+pub mod Listed
+pub mod Theorem

@@ -2,17 +2,16 @@
 use mathlib.Core.Path.{_≡_, refl, sym, ap, ap₂, _∙_, subst}
 use Prim.Native.Nat.{ℕ, _<_, _^_}
 use mathlib.Core.Bool.{Bool, true, false, cond}
-use mathlib.Core.List.{List, [], _∷_, _++_}
+use mathlib.Core.List.{[], _∷_, _++_}
 use lib.Bits.{bitXor, xor-lt, xor-zero-l, xor-zero-r}
-use lib.Dec.{eqb, lit<}
+use lib.Dec.{lit<}
 use borrow.Author.Tests.{eqb-true}
 use Rattle.shift.specs.declared.Shift.{Shift}
 use Rattle.shift.specs.Shifts.{Valid, validNumber, numberOf, shiftAt, applyOf}
 use Rattle.shift.proofs.Linear.{shifted-lt, xor-shifted, zero-shifted, still}
 use Rattle.shift.proofs.Numbers.{number-back, number-valid}
-use Rattle.operand.specs.declared.PushInner.{PushInner}
 use Rattle.operand.specs.declared.PushInner.the-variants.{Seq, Zero}
-use Rattle.operand.specs.Push.{pushValid, PushRight}
+use Rattle.operand.specs.Push.{PushRight}
 use Rattle.operand.specs.Numbers.{Term, Operand}
 use Rattle.operand.proofs.Pushes.{push-right}
 use Rattle.lower.specs.Lists.{All, done, more}
