@@ -5,3 +5,4 @@ pub mod Filling
 pub mod Undo
 pub mod Listed
 pub mod Theorem
+pub mod Order

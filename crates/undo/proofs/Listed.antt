@@ -21,6 +21,7 @@ use Rattle.patch.proofs.Definitions.{of-looked-up}
 use Rattle.undo.specs.FillBack.{IsWord, fillBack, FilledBack, filledList}
 use Rattle.undo.specs.Demand3.{Undone, Demand3}
 use Rattle.undo.proofs.Filling.{fill-word}
+use Rattle.undo.proofs.Undo.{filling, one-filling}
 
 pub upTo-length : (n : ℕ) → length (upTo n) ≡ n
 upTo-length zero = refl
@@ -57,34 +58,35 @@ module _ (p : System) (c : ℕ → Bool) (acc : Accepted p) where
   unfolding filledList
   filled-length w = length-map (upTo (p .wires)) _ ∙ upTo-length (p .wires)
 
+  -- the list that filling back gives, read as a function, is filling back
+  pub listed : (w : List ℕ) → length w ≡ p .wires → wordOf (filledList p c w) ≡ fillBack p c (wordOf w)
+  unfolding filledList
+  listed w long = fun-ext (λ i. step i (decLt i (p .wires)))
+    where
+      f : ℕ → ℕ
+      f = fillBack p c (wordOf w)
+
+      step : (i : ℕ) → Dec (i < p .wires) → wordOf (filledList p c w) i ≡ fillBack p c (wordOf w) i
+      step i (yes b) = tabled-at (fillBack p c (wordOf w)) 0 (p .wires) i b
+      step i (no b) =
+          List·getD-eq-default (filledList p c w) 0 (rw (filled-length w) (omega arith))
+          ∙ sym (List·getD-eq-default w 0 (rw long (omega arith)))
+          ∙ sym (filling p c acc (wordOf w) .others i (beyond i (omega arith)))
+
+  -- no other list of words is filled back
+  pub one-list : (w v : List ℕ) → length w ≡ p .wires → length v ≡ p .wires → FilledBack p c w v → v ≡ filledList p c w
+  one-list w v lw lv fb =
+      ext-getD 0 v (filledList p c w) (lv ∙ sym (filled-length w)) λ i b.
+      one-filling p c acc (wordOf w) (wordOf v) fb i ∙ sym (ap (λ (f : ℕ → ℕ). f i) (listed w lw))
+
+  pub filled-back : (w : List ℕ) → length w ≡ p .wires → FilledBack p c w (filledList p c w)
+  filled-back w lw = rw (listed w lw) (filling p c acc (wordOf w))
+
+  pub filled-words : (w : List ℕ) → All IsWord w → All IsWord (filledList p c w)
+  unfolding filledList fillBack
+  filled-words w h = all-mapped (fillBack p c (wordOf w)) (all-upTo (p .wires) (λ i b. fill-word (inlined p c) (wordOf w) (words-of h) (depth p c) i))
+
   module _ (Imul Bmul : List ℕ → Type 0) (u : Undone p c Imul Bmul) where
-    -- the list that filling back gives, read as a function, is filling back
-    listed : (w : List ℕ) → length w ≡ p .wires → wordOf (filledList p c w) ≡ fillBack p c (wordOf w)
-    unfolding filledList
-    listed w long = fun-ext (λ i. step i (decLt i (p .wires)))
-      where
-        f : ℕ → ℕ
-        f = fillBack p c (wordOf w)
-
-        step : (i : ℕ) → Dec (i < p .wires) → wordOf (filledList p c w) i ≡ fillBack p c (wordOf w) i
-        step i (yes b) = tabled-at (fillBack p c (wordOf w)) 0 (p .wires) i b
-        step i (no b) =
-            List·getD-eq-default (filledList p c w) 0 (rw (filled-length w) (omega arith))
-            ∙ sym (List·getD-eq-default w 0 (rw long (omega arith)))
-            ∙ sym (u .fills (wordOf w) .others i (beyond i (omega arith)))
-
-    one-list : (w v : List ℕ) → length w ≡ p .wires → length v ≡ p .wires → FilledBack p c w v → v ≡ filledList p c w
-    one-list w v lw lv fb =
-        ext-getD 0 v (filledList p c w) (lv ∙ sym (filled-length w)) λ i b.
-        u .one-filling (wordOf w) (wordOf v) fb i ∙ sym (ap (λ (f : ℕ → ℕ). f i) (listed w lw))
-
-    filled-back : (w : List ℕ) → length w ≡ p .wires → FilledBack p c w (filledList p c w)
-    filled-back w lw = rw (listed w lw) (u .fills (wordOf w))
-
-    filled-words : (w : List ℕ) → All IsWord w → All IsWord (filledList p c w)
-    unfolding filledList fillBack
-    filled-words w h = all-mapped (fillBack p c (wordOf w)) (all-upTo (p .wires) (λ i b. fill-word (inlined p c) (wordOf w) (words-of h) (depth p c) i))
-
     pub demand-3 : Demand3 p c Imul Bmul
     demand-3 =
         record {

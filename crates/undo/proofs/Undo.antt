@@ -158,7 +158,7 @@ module _ (p : System) (c : ℕ → Bool) (acc : Accepted p) where
 
   -- ---- filling back
 
-  filling : (w : ℕ → ℕ) → FillsBack p c w (fillBack p c w)
+  pub filling : (w : ℕ → ℕ) → FillsBack p c w (fillBack p c w)
   unfolding fillBack
   filling w = record { others = fill-others (inlined p c) w (depth p c); filled = fill-filled (inlined p c) w (depth p c) (deep p c (acc .no-circle)) }
 

@@ -1,2 +1,3 @@
 pub mod FillBack
 pub mod Demand3
+pub mod Steps
