@@ -1,0 +1,5 @@
+pub mod Lists
+pub mod Expansion
+pub mod Patch
+pub mod Counts
+pub mod Steps

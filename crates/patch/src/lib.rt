@@ -1,0 +1,1 @@
+// Expansion and the patched lists. Follows frontend/src/pass/fusion/patch.rs.
