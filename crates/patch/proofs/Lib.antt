@@ -6,3 +6,4 @@ pub mod NeverOver
 pub mod Counting
 pub mod Samples
 pub mod Writing
+pub mod Spells
