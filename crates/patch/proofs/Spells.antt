@@ -23,22 +23,21 @@ use Rattle.commit_set.proofs.Members.{all-get}
 use Rattle.legraph.specs.Walked.{rhsIn}
 use Rattle.patch.specs.declared.Cursor.{Cursor}
 use Rattle.patch.specs.Expansion.{under, Within}
-use Rattle.patch.specs.Spelling.{Source, placeOf, inPlace, inlinedNumber, aliveAt, dead, Spelt, spelt, put, spellDown, spellUnder, spellBy, spell}
+use Rattle.patch.specs.Steps.{Written, wrote, put, writeDown}
+use Rattle.patch.specs.Spelling.{Source, placeOf, inPlace, inlinedNumber, aliveAt, dead, spelt, spellUnder, spellBy, spell}
 
 pub number-low : (s : Shift) → Valid s → numberOf s < 512
 number-low s h = valid-low (numberOf s) (number-valid s h)
 
-pub put-full : (t : Term) (l : List ℕ) (n : ℕ) (full : Bool) → length l ≤ n
-    → record { terms = l; count = n; full = true } ≡ put t (record { terms = l; count = n; full = full })
+pub put-full : (t : Term) (l : List ℕ) (n : ℕ) (full : Bool) → full ≡ false → length l ≤ n → wrote l n [] true ≡ put t (wrote l n [] full)
 unfolding put
-put-full t l n full h = rw (le-ltb n (length l) h)
+put-full t l n full e h = rw (e, le-ltb n (length l) h)
 
-pub put-room : (t : Term) (l : List ℕ) (n : ℕ) (full : Bool) → n < length l
-    → record { terms = set l n (termNumber t); count = n + 1; full = false } ≡ put t (record { terms = l; count = n; full = full })
+pub put-room : (t : Term) (l : List ℕ) (n : ℕ) (full : Bool) → full ≡ false → n < length l → wrote (set l n (termNumber t)) (n + 1) [] false ≡ put t (wrote l n [] full)
 unfolding put
-put-room t l n full h =
+put-room t l n full q h =
     let e : n + 1 ≡ suc n = omega arith in
-    rw (lt-ltb n (length l) h, e)
+    rw (q, lt-ltb n (length l) h, e)
 
 -- the node that is found tells what is put in the wire's place
 pub place-none : (s : Source) (w : ℕ) → inlinedNumber (s .decisions) (getD (s .table) w 0) ≡ 0 → inPlace s w ≡ none
@@ -71,7 +70,7 @@ place-some s w d e = go (getD (s .table) w 0) refl e
             let same : f ≡ d = omega arith in
             record { node = q ∙ ap suc same; put-there = rw (q, r) (ap (λ (i : ℕ). some (rhsIn (s .old) (s .new) (s .rhss) i)) same) }
 
-module _ (s : Source) (n : ℕ) (m : Spelt) where
+module _ (s : Source) (n : ℕ) (m : Written) where
   pub spell-full : (t : Term) → m .full ≡ true → m ≡ spell s n t m
   unfolding spell
   spell-full t h = go n
@@ -139,13 +138,13 @@ module _ (s : Source) (n : ℕ) (m : Spelt) where
               ∙ ap₂ (λ (a b : Shift). spellUnder (spell s k) a b rhs m) (number-back i hi) (number-back o ho)
               )
 
-pub under-step : (go : Term → Spelt → Spelt) (i o : Shift) (ts : List ℕ) (k : ℕ) (m : Spelt) → k < length ts
+pub under-step : (go : Term → Written → Written) (i o : Shift) (ts : List ℕ) (k : ℕ) (m : Written) → k < length ts
     → spellUnder go i o (map termOf (drop k ts)) m
-    ≡ spellUnder go i o (map termOf (drop (k + 1) ts)) (spellDown go (termOf (getD ts k 0) .wire) (pushValid i o (shiftAt (termOf (getD ts k 0) .inner)) 2) m)
+    ≡ spellUnder go i o (map termOf (drop (k + 1) ts)) (writeDown go (termOf (getD ts k 0) .wire) (pushValid i o (shiftAt (termOf (getD ts k 0) .inner)) 2) m)
 unfolding spellUnder
 under-step go i o ts k m h = rw (drop-step ts k 0 h)
 
-pub under-end : (go : Term → Spelt → Spelt) (i o : Shift) (ts : List ℕ) (k : ℕ) (m : Spelt) → length ts ≤ k → spellUnder go i o (map termOf (drop k ts)) m ≡ m
+pub under-end : (go : Term → Written → Written) (i o : Shift) (ts : List ℕ) (k : ℕ) (m : Written) → length ts ≤ k → spellUnder go i o (map termOf (drop k ts)) m ≡ m
 unfolding spellUnder
 under-end go i o ts k m h = rw (drop-of-length-le ts h)
 

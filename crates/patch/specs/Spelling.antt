@@ -2,7 +2,7 @@
 --
 --   inPlace            what is put in the place of a wire, by the table of definitions and the decisions: none where the wire stands
 --   dead alive t       no bit that can be set in the wire of t gets through the shifts of t: nothing would be written
---   Spelt              the store of new terms, how many it has, and whether a term found no room; once one did nothing is done
+--   spelt              the store of new terms and how far it is filled, as a state of Steps.antt
 --   spell              a term expanded and written; spellUnder, the terms of its definition that are left
 --
 -- Assumes nothing.
@@ -23,7 +23,7 @@ use Rattle.lower.specs.Lists.{All}
 use Rattle.lower.specs.Stores.{Stands}
 use Rattle.legraph.specs.Walked.{rhsIn}
 use Rattle.patch.specs.declared.Cursor.{Cursor}
-use Rattle.patch.specs.Expansion.{under}
+use Rattle.patch.specs.Steps.{Written, wrote, put, writeDown}
 
 -- the stores that expansion reads
 pub record Source : Type 0 where
@@ -57,35 +57,20 @@ aliveAt s (suc d) = getD (s .alive) d 0
 unfoldable pub dead : Source → Term → Bool
 dead s t = eqb (applyOf (shiftAt (t .outer)) (applyOf (shiftAt (t .inner)) (aliveAt s (getD (s .table) (t .wire) 0)))) 0
 
-pub record Spelt : Type 0 where
-  pub terms : List ℕ
-  pub count : ℕ
-  pub full : Bool
-
-abbrev pub spelt : List ℕ → Cursor → Spelt
-spelt l c = record { terms = l; count = c .count; full = c .full }
-
-unfoldable pub put : Term → Spelt → Spelt
-put t m =
-    cond (ltb (m .count) (length (m .terms)))
-    (record { terms = set (m .terms) (m .count) (termNumber t); count = suc (m .count); full = false })
-    (record { terms = m .terms; count = m .count; full = true })
-
-abbrev pub spellDown : (Term → Spelt → Spelt) → ℕ → PushInner → Spelt → Spelt
-spellDown go w (Seq i o) m = go (under w i o) m
-spellDown go w Zero m = m
-spellDown go w OverBudget m = m
+-- no definition is marked on the way: that is told by other means
+abbrev pub spelt : List ℕ → Cursor → Written
+spelt l c = wrote l (c .count) [] (c .full)
 
 -- the terms of a definition that are left, below the shifts i and o
-unfoldable pub spellUnder : (Term → Spelt → Spelt) → Shift → Shift → Operand → Spelt → Spelt
+unfoldable pub spellUnder : (Term → Written → Written) → Shift → Shift → Operand → Written → Written
 spellUnder go i o [] m = m
-spellUnder go i o (u ∷ us) m = spellUnder go i o us (spellDown go (u .wire) (pushValid i o (shiftAt (u .inner)) 2) m)
+spellUnder go i o (u ∷ us) m = spellUnder go i o us (writeDown go (u .wire) (pushValid i o (shiftAt (u .inner)) 2) m)
 
-unfoldable pub spellBy : Source → (Term → Spelt → Spelt) → Term → Option Operand → Spelt → Spelt
+unfoldable pub spellBy : Source → (Term → Written → Written) → Term → Option Operand → Written → Written
 spellBy s go t none m = put t m
 spellBy s go t (some rhs) m = cond (dead s t) m (spellUnder go (shiftAt (t .inner)) (shiftAt (t .outer)) rhs m)
 
-unfoldable pub spell : Source → ℕ → Term → Spelt → Spelt
+unfoldable pub spell : Source → ℕ → Term → Written → Written
 spell s zero t m = cond (m .full) m (put t m)
 spell s (suc n) t m = cond (m .full) m (spellBy s (spell s n) t (inPlace s (t .wire)) m)
 

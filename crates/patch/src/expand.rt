@@ -1,6 +1,6 @@
 // A term is expanded through its definition's operand, an operand through its terms, until a committed or undefined wire stands.
 ghost use mathlib.Core.Path.{_≡_};
-ghost use mathlib.Core.Bool.{true};
+ghost use mathlib.Core.Bool.{true, false};
 ghost use Prim.Native.Nat.{_≤_};
 ghost use lib.Dec.{eqb};
 ghost use lib.ListN.{length, getD};
@@ -11,7 +11,8 @@ ghost use Rattle.lower.specs.Lists.{All};
 ghost use Rattle.legraph.specs.Tables.{toldNode};
 ghost use Rattle.legraph.specs.Walked.{rhsIn};
 ghost use Rattle.patch.specs.Expansion.{under, Within};
-ghost use Rattle.patch.specs.Spelling.{source, inPlace, inlinedNumber, spelt, put, spellDown, spellUnder, spell, Opens, Readable};
+ghost use Rattle.patch.specs.Steps.{put, writeDown};
+ghost use Rattle.patch.specs.Spelling.{source, inPlace, inlinedNumber, spelt, spellUnder, spell, Opens, Readable};
 use crate::Cursor;
 use legraph::Node;
 use operand::LinDefId;
@@ -23,7 +24,7 @@ use shift::Shift;
 fn put(out: &mut [u64], c: Cursor, wire: Wire, inner: Shift, outer: Shift) -> Cursor
     requires { ⌜ Valid inner ⌝ }
     requires { ⌜ Valid outer ⌝ }
-    requires { ⌜ c .count ≤ length (now out) ⌝ }
+    requires { ⌜ (c .full ≡ false) × (c .count ≤ length (now out)) ⌝ }
     ensures { λ r. ⌜ (spelt (now (out .exit)) r ≡ put (under (wire .0) inner outer) (spelt (now (out .entry)) c)) × (r .count ≤ length (now (out .entry))) ⌝ }
 {
     let n = c.count;
@@ -192,7 +193,7 @@ fn expand_below<'a>(
     requires { ⌜ Readable (source (now old) (now new) (now rhss) (now table) (now decisions) (now alive)) ⌝ }
     requires { ⌜ Within (inPlace (source (now old) (now new) (now rhss) (now table) (now decisions) (now alive))) below (termOf t .wire) ⌝ }
     requires { ⌜ (validNumber (termOf t .inner) ≡ true) × Valid inner × Valid outer × (c .count ≤ length (now out)) ⌝ }
-    ensures { λ r. ⌜ spelt (now (out .exit)) r ≡ spellDown (spell (source (now (old .entry)) (now (new .entry)) (now (rhss .entry)) (now (table .entry)) (now (decisions .entry)) (now (alive .entry))) below) (termOf t .wire) (pushValid inner outer (shiftAt (termOf t .inner)) 2) (spelt (now (out .entry)) c) ⌝ }
+    ensures { λ r. ⌜ spelt (now (out .exit)) r ≡ writeDown (spell (source (now (old .entry)) (now (new .entry)) (now (rhss .entry)) (now (table .entry)) (now (decisions .entry)) (now (alive .entry))) below) (termOf t .wire) (pushValid inner outer (shiftAt (termOf t .inner)) 2) (spelt (now (out .entry)) c) ⌝ }
     ensures { λ r. ⌜ r .count ≤ length (now (out .entry)) ⌝ }
 {
     let s = shift::valid::from_index(operand::term::inner(t));

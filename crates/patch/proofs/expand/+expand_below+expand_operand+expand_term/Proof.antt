@@ -15,7 +15,8 @@ use Rattle.legraph.specs.Walked.{rhsIn}
 use Rattle.legraph.specs.Tables.{toldNode}
 use Rattle.commit_set.proofs.Valids.{fold-valid}
 use Rattle.patch.specs.Expansion.{under, Within}
-use Rattle.patch.specs.Spelling.{Source, source, inPlace, Spelt, spelt, spellDown, spellUnder, spell}
+use Rattle.patch.specs.Steps.{writeDown}
+use Rattle.patch.specs.Spelling.{Source, source, inPlace, spelt, spellUnder, spell}
 use Rattle.patch.proofs.Spells.{place-none, Placed, place-some, spell-full, spell-stands, some-left, within-below, spell-dead, spell-opens, under-step, under-end, term-read}
 use borrow.Author.Needs.{needs}
 use Prim.Native.Nat.{ℕ, _<_, _+_, _-_, _*_, _≤_}
@@ -128,19 +129,19 @@ expand-below-returns : (t : ℕ) → expand-below-lts.Need-returns (claims-expan
 expand-below-returns t c = let s = c .before .before .before .before .before .before .before .before .before .before .before .before .before .before .before .before .before .before in
     let q : Source = source (s .args .old .now) (s .args .new .now) (s .args .rhss .now) (s .args .table .now) (s .args .decisions .now) (s .args .alive .now) in
     let e = ap (λ (x : Shift). pushValid (s .args .inner) (s .args .outer) x 2) (sym (c .before .before .before .before .before .before .before .before .before .from-index .ensures .0 ∙ ap shiftAt (c .before .before .before .before .before .before .before .before .before .before .inner .ensures))) ∙ sym (c .before .before .before .before .before .before .before .push-inner .ensures) ∙ c .before .before .before .before .before .i .given .1 in
-    (c .before .before .expand-term .ensures .0 ∙ rw (c .before .before .before .before .before .before .before .before .wire .ensures) (sym (ap (λ (x : PushInner). spellDown (spell q (s .args .below)) (termOf (s .args .t) .wire) x (spelt (s .args .out .now) (s .args .c))) e)), c .before .before .expand-term .ensures .1)
+    (c .before .before .expand-term .ensures .0 ∙ rw (c .before .before .before .before .before .before .before .before .wire .ensures) (sym (ap (λ (x : PushInner). writeDown (spell q (s .args .below)) (termOf (s .args .t) .wire) x (spelt (s .args .out .now) (s .args .c))) e)), c .before .before .expand-term .ensures .1)
 
 expand-below-returns-2 : (t : ℕ) → expand-below-lts.Need-returns-2 (claims-expand-below t) (expand-below-at t) expand-below.Post
 expand-below-returns-2 t c = let s = c .before .before .before .before .before .before .before .before .before .before .before .before .before in
     let q : Source = source (s .args .old .now) (s .args .new .now) (s .args .rhss .now) (s .args .table .now) (s .args .decisions .now) (s .args .alive .now) in
     let e = ap (λ (x : Shift). pushValid (s .args .inner) (s .args .outer) x 2) (sym (c .before .before .before .before .from-index .ensures .0 ∙ ap shiftAt (c .before .before .before .before .before .inner .ensures))) ∙ sym (c .before .before .push-inner .ensures) ∙ c .enum-told .given .1 in
-    (sym (ap (λ (x : PushInner). spellDown (spell q (s .args .below)) (termOf (s .args .t) .wire) x (spelt (s .args .out .now) (s .args .c))) e), s .pre .1 .1 .1 .3)
+    (sym (ap (λ (x : PushInner). writeDown (spell q (s .args .below)) (termOf (s .args .t) .wire) x (spelt (s .args .out .now) (s .args .c))) e), s .pre .1 .1 .1 .3)
 
 expand-below-returns-3 : (t : ℕ) → expand-below-lts.Need-returns-3 (claims-expand-below t) (expand-below-at t) expand-below.Post
 expand-below-returns-3 t c = let s = c .before .before .before .before .before .before .before .before .before .before .before .before .before in
     let q : Source = source (s .args .old .now) (s .args .new .now) (s .args .rhss .now) (s .args .table .now) (s .args .decisions .now) (s .args .alive .now) in
     let e = ap (λ (x : Shift). pushValid (s .args .inner) (s .args .outer) x 2) (sym (c .before .before .before .before .from-index .ensures .0 ∙ ap shiftAt (c .before .before .before .before .before .inner .ensures))) ∙ sym (c .before .before .push-inner .ensures) ∙ c .enum-told2 .given .1 in
-    (sym (ap (λ (x : PushInner). spellDown (spell q (s .args .below)) (termOf (s .args .t) .wire) x (spelt (s .args .out .now) (s .args .c))) e), s .pre .1 .1 .1 .3)
+    (sym (ap (λ (x : PushInner). writeDown (spell q (s .args .below)) (termOf (s .args .t) .wire) x (spelt (s .args .out .now) (s .args .c))) e), s .pre .1 .1 .1 .3)
 
 abbrev expand-operand-Inv-loop : expand-operand-lts.InvT-loop
 expand-operand-Inv-loop old new rhss table decisions alive out₀ inner outer below i ts cur₀ k₀ out cur k =
@@ -224,7 +225,7 @@ expand-term-enum-told : (t : ℕ) → expand-term-lts.Need-enum-told (claims-exp
 expand-term-enum-told t c = search needs
 
 expand-term-put-requires : (t : ℕ) → expand-term-lts.Need-put-requires (claims-expand-term t) (expand-term-at t) expand-term.Post
-expand-term-put-requires t c κs = let s = c .before .before .before .before .before .before .before .before .before .before .before .before in (s .pre .1 .1 .1 .0, (s .pre .1 .1 .1 .1, s .pre .1 .1 .1 .2))
+expand-term-put-requires t c κs = let s = c .before .before .before .before .before .before .before .before .before .before .before .before in (s .pre .1 .1 .1 .0, (s .pre .1 .1 .1 .1, (c .before .before .before .before .if1 .left, s .pre .1 .1 .1 .2)))
 
 expand-term-same-length : (t : ℕ) → expand-term-lts.Need-same-length (claims-expand-term t) (expand-term-at t) expand-term.Post
 expand-term-same-length t c = search needs

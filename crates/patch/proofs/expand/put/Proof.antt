@@ -1,4 +1,6 @@
 -- The two ways of the definition, room or none. Assumes nothing.
+use mathlib.Core.List.{[]}
+use Rattle.patch.specs.Steps.{wrote}
 use Prim.Native.Nat.{ℕ, _+_}
 use mathlib.Core.Path.{_≡_, ap, ap₂, _∙_}
 use mathlib.Core.Bool.{true, false}
@@ -6,14 +8,13 @@ use native.Mathlib.Omega.{arith}
 use lib.ListN.{set}
 use Rattle.operand.specs.Numbers.{termNumber}
 use Rattle.patch.specs.Expansion.{under}
-use Rattle.patch.specs.Spelling.{Spelt}
 use Rattle.patch.proofs.Spells.{number-low, put-full, put-room}
 use borrow.Author.Needs.{needs}
 use Rattle.patch.proofs.expand.put.Statement.{statement}
 use Rattle.patch.proofs.expand.put.Tie as tie
 
 returns : tie.Need-returns
-returns c = let s = c .before .before in (put-full (under (s .args .wire .0) (s .args .inner) (s .args .outer)) (s .args .out .now) (s .args .c .count) (s .args .c .full) (c .if1 .taken), omega arith)
+returns c = let s = c .before .before in (put-full (under (s .args .wire .0) (s .args .inner) (s .args .outer)) (s .args .out .now) (s .args .c .count) (s .args .c .full) (s .pre .1 .1 .0) (c .if1 .taken), omega arith)
 
 index-requires : tie.Need-index-requires
 index-requires c κs = search needs
@@ -45,8 +46,8 @@ same-length c = search needs
 returns-2 : tie.Need-returns-2
 returns-2 c = let s = c .before .before .before .before .before in
     let e = c .number .ensures ∙ ap₂ (λ (a b : ℕ). termNumber (record { wire = s .args .wire .0; inner = a; outer = b })) (c .before .before .index .ensures) (c .before .index2 .ensures) in (
-      ap (λ (v : ℕ). record { terms = set (s .args .out .now) (s .args .c .count) v; count = s .args .c .count + 1; full = false }) e
-          ∙ put-room (under (s .args .wire .0) (s .args .inner) (s .args .outer)) (s .args .out .now) (s .args .c .count) (s .args .c .full) (c .before .before .before .if1 .left),
+      ap (λ (v : ℕ). wrote (set (s .args .out .now) (s .args .c .count) v) (s .args .c .count + 1) [] false) e
+          ∙ put-room (under (s .args .wire .0) (s .args .inner) (s .args .outer)) (s .args .out .now) (s .args .c .count) (s .args .c .full) (s .pre .1 .1 .0) (c .before .before .before .if1 .left),
       omega arith,
     )
 
