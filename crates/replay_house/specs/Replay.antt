@@ -1,14 +1,143 @@
--- The replay of house files.
+-- The replay of house files: what its parts come to.
 --
 --   numberAt s at     a number of four bytes, the low one first; 0 where they are not all there
+--   counted t b       one more check, right or wrong
+--   mixedOf d n       the digest d with the number n; digestOf d bs, with all of bs
+--   refusedSeen       a file that is not read; doneSeen, one that is, with what writing gave
+--   sameCounts, sameSeen    all numbers of the two are the same
+--   expectedAt        what a vector asks of a file: nine numbers; a file that is read is written again in as many bytes
+--   sameBytes a b     the two lists are the same
+--   Held, passOf      what reading a file leaves in stores of 8,192 terms and the limits' rows and definitions, and what writing that gives
+--   Passed            that, and the lent bytes afterwards
+--   termMade ..       the i-th term, operand and wire of a system that is made; madeFrom f i n, n of them from the i-th on
 --
 -- Assumes nothing.
-use mathlib.Core.Bool.{cond}
-use mathlib.Core.List.{List}
-use Prim.Native.Nat.{ℕ, _+_, _*_}
-use lib.Dec.{leb}
-use lib.ListN.{length}
+use mathlib.Core.Path.{_≡_}
+use mathlib.Core.Bool.{Bool, true, false, cond, _&&_}
+use mathlib.Core.List.{List, [], _∷_}
+use Prim.Native.Nat.{ℕ, zero, suc, _+_, _*_, _/_, _%_, _^_}
+use lib.Dec.{leb, eqb}
+use lib.ListN.{length, replicate}
+use lib.Seq.{sets}
+use Rattle.operand.specs.Numbers.{termNumber, operandNumber}
+use Rattle.lower.specs.declared.Sizes.{Sizes}
+use Rattle.lower.specs.Stores.{Stores, stores, systemOf}
+use Rattle.house_file.specs.Format.{Entry, LINEAR, fileOf}
 use Rattle.house_file.specs.Decoding.{u16At}
+use Rattle.house_file.specs.Reading.{readOf, entriesRead}
+use Rattle.house_file.specs.declared.Read.{Read}
+use Rattle.house_file.specs.declared.Read.the-variants as R
+use Rattle.house_fill.specs.Layout.{termsLaid, listLaid, destinationsLaid}
+use Rattle.house_read.specs.Answer.{withRoom}
+use Rattle.house_write.specs.Write.{writeFault, writtenOf, bytesBy}
+use Rattle.house_write.specs.declared.Written.{Written}
+use Rattle.house_write.specs.declared.Written.the-variants as W
+use Rattle.replay_house.specs.declared.tally.Tally.{Tally}
+use Rattle.replay_house.specs.declared.pass.Seen.{Seen}
 
 unfoldable pub numberAt : List ℕ → ℕ → ℕ
 numberAt s at = cond (leb (at + 4) (length s)) (u16At s at + 65536 * u16At s (at + 2)) 0
+
+-- ---- checks and digest
+
+abbrev pub counted : Tally → Bool → Tally
+counted t b =
+    record {
+      right = cond b ((t .right + 1) % 2 ^ 64) (t .right);
+      wrong = cond b (t .wrong) ((t .wrong + 1) % 2 ^ 64);
+      digest = t .digest;
+    }
+
+abbrev pub mixedOf : ℕ → ℕ → ℕ
+mixedOf d n = (d % 1000000007 * 31 + n % 1000000007) % 1000000007
+
+abbrev pub withNumber : Tally → ℕ → Tally
+withNumber t n = record { right = t .right; wrong = t .wrong; digest = mixedOf (t .digest) n }
+
+unfoldable pub digestOf : ℕ → List ℕ → ℕ
+digestOf d [] = d
+digestOf d (b ∷ bs) = digestOf (mixedOf d b) bs
+
+abbrev pub withBytes : Tally → List ℕ → Tally
+withBytes t bs = record { right = t .right; wrong = t .wrong; digest = digestOf (t .digest) bs }
+
+-- ---- one file
+
+abbrev pub refusedSeen : ℕ → ℕ → Seen
+refusedSeen n at =
+    record { number = n; at = at; wires = 0; ands = 0; imuls = 0; bmuls = 0; zeros = 0; linears = 0; terms = 0; written = 0; length = 0 }
+
+abbrev pub doneSeen : Sizes → ℕ → ℕ → ℕ → Seen
+doneSeen z terms written length =
+    record {
+      number = 0;
+      at = 0;
+      wires = z .wires;
+      ands = z .ands;
+      imuls = z .imuls;
+      bmuls = z .bmuls;
+      zeros = z .zeros;
+      linears = z .linears;
+      terms = terms;
+      written = written;
+      length = length;
+    }
+
+abbrev pub writtenSeen : Sizes → ℕ → Written → Seen
+writtenSeen z terms (W.Done n) = doneSeen z terms 0 n
+writtenSeen z terms (W.Refused number) = doneSeen z terms number 0
+
+unfoldable pub sameCounts : Seen → Seen → Bool
+sameCounts a b =
+    eqb (a .wires) (b .wires)
+    && (eqb (a .ands) (b .ands)
+    && (eqb (a .imuls) (b .imuls) && (eqb (a .bmuls) (b .bmuls) && (eqb (a .zeros) (b .zeros) && eqb (a .linears) (b .linears)))))
+
+unfoldable pub sameSeen : Seen → Seen → Bool
+sameSeen a b =
+    eqb (a .number) (b .number)
+    && (eqb (a .at) (b .at)
+    && (eqb (a .terms) (b .terms) && (eqb (a .written) (b .written) && (eqb (a .length) (b .length) && sameCounts a b))))
+
+unfoldable pub sameBytes : List ℕ → List ℕ → Bool
+sameBytes [] [] = true
+sameBytes [] (y ∷ ys) = false
+sameBytes (x ∷ xs) [] = false
+sameBytes (x ∷ xs) (y ∷ ys) = eqb x y && sameBytes xs ys
+
+-- what reading s answers, and what it leaves
+abbrev pub readIn : List ℕ → Read
+readIn s = withRoom (readOf s) (length s) 8192 3072 4096 6144 1024 1024 1024
+
+abbrev pub heldOf : List Entry → Stores
+heldOf es =
+    stores (sets (replicate 8192 0) 0 (termsLaid es)) [] (sets (replicate 3072 0) 0 (listLaid 2 0 es)) (sets (replicate 4096 0) 0 (listLaid 3 0 es))
+    (sets (replicate 6144 0) 0 (listLaid 4 0 es)) (sets (replicate 1024 0) 0 (listLaid 5 0 es)) (sets (replicate 1024 0) 0 (destinationsLaid es))
+    (sets (replicate 1024 0) 0 (listLaid LINEAR 0 es))
+
+abbrev pub passBy : List Entry → Read → ℕ → Seen
+passBy es (R.Refused number at) room = refusedSeen number at
+passBy es (R.Done z terms) room = writtenSeen z terms (writtenOf z (heldOf es) room)
+
+abbrev pub bytesAfter : List Entry → Read → List ℕ → List ℕ
+bytesAfter es (R.Refused number at) out = out
+bytesAfter es (R.Done z terms) out = sets out 0 (bytesBy (writeFault z (heldOf es) (length out)) (fileOf (systemOf z (heldOf es))))
+
+pub record Passed (s out : List ℕ) (r : Seen) (out′ : List ℕ) : Type 0 where
+  pub seen-is : r ≡ passBy (entriesRead s (readIn s)) (readIn s) (length out)
+  pub bytes-are : out′ ≡ bytesAfter (entriesRead s (readIn s)) (readIn s) out
+
+-- ---- systems that are made
+
+unfoldable pub termMade : ℕ → ℕ → ℕ
+termMade wires i = cond (eqb wires 0) 0 (termNumber (record { wire = i % wires % 65536; inner = i % 256; outer = i / 7 % 256 }))
+
+unfoldable pub operandMade : ℕ → ℕ → ℕ
+operandMade len i = operandNumber (record { start = i % 97; len = len % 65536; new = false })
+
+unfoldable pub wireMade : ℕ → ℕ → ℕ
+wireMade wires i = cond (eqb wires 0) 0 (i % wires % 65536)
+
+unfoldable pub madeFrom : (ℕ → ℕ) → ℕ → ℕ → List ℕ
+madeFrom f i zero = []
+madeFrom f i (suc n) = f i ∷ madeFrom f (i + 1) n

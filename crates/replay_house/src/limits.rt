@@ -1,6 +1,7 @@
 // Files at the limits, made by loops, written, and read again.
 ghost use mathlib.Core.Path.{_≡_};
-ghost use lib.ListN.{set};
+ghost use lib.ListN.{length, set};
+ghost use Rattle.replay_house.specs.Replay.{termMade, operandMade, wireMade, madeFrom};
 use crate::pass;
 use crate::tally;
 use crate::tally::Tally;
@@ -238,7 +239,9 @@ fn limit_at(i: usize) -> Case {
 }
 
 // The `i`-th term: it names a wire below the count, with shifts that there are.
-fn term_at(i: usize, wires: usize) -> u64 {
+fn term_at(i: usize, wires: usize) -> u64
+    ensures { λ r. ⌜ r ≡ termMade wires i ⌝ }
+{
     if wires == 0 {
         return 0;
     }
@@ -249,7 +252,9 @@ fn term_at(i: usize, wires: usize) -> u64 {
     )
 }
 
-fn fill_terms(store: &mut [u64], wires: usize) {
+fn fill_terms(store: &mut [u64], wires: usize)
+    ensures { λ _. ⌜ now (store .exit) ≡ madeFrom (termMade wires) 0 (length (now (store .entry))) ⌝ }
+{
     let mut i = 0;
     while i < store.len() {
         store[i] = term_at(i, wires);
@@ -258,7 +263,9 @@ fn fill_terms(store: &mut [u64], wires: usize) {
 }
 
 // An operand of so many terms, at the front of the terms.
-fn operand_at(i: usize, len: usize) -> u64 {
+fn operand_at(i: usize, len: usize) -> u64
+    ensures { λ r. ⌜ r ≡ operandMade len i ⌝ }
+{
     operand::valid::number(WireOperand {
         start: (i % 97) as u32,
         len: (len % 65536) as u32,
@@ -266,7 +273,9 @@ fn operand_at(i: usize, len: usize) -> u64 {
     })
 }
 
-fn fill_operands(store: &mut [u64], len: usize) {
+fn fill_operands(store: &mut [u64], len: usize)
+    ensures { λ _. ⌜ now (store .exit) ≡ madeFrom (operandMade len) 0 (length (now (store .entry))) ⌝ }
+{
     let mut i = 0;
     while i < store.len() {
         store[i] = operand_at(i, len);
@@ -274,14 +283,18 @@ fn fill_operands(store: &mut [u64], len: usize) {
     }
 }
 
-fn wire_at(i: usize, wires: usize) -> u16 {
+fn wire_at(i: usize, wires: usize) -> u16
+    ensures { λ r. ⌜ r ≡ wireMade wires i ⌝ }
+{
     if wires == 0 {
         return 0;
     }
     (i % wires % 65536) as u16
 }
 
-fn fill_wires(store: &mut [u16], wires: usize) {
+fn fill_wires(store: &mut [u16], wires: usize)
+    ensures { λ _. ⌜ now (store .exit) ≡ madeFrom (wireMade wires) 0 (length (now (store .entry))) ⌝ }
+{
     let mut i = 0;
     while i < store.len() {
         store[i] = wire_at(i, wires);

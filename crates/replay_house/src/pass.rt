@@ -1,5 +1,7 @@
 // A file read, and what was read written.
+ghost use mathlib.Core.Path.{_≡_};
 ghost use mathlib.Core.List.{[]};
+ghost use Rattle.replay_house.specs.Replay.{refusedSeen, doneSeen, writtenSeen, sameCounts, sameSeen, sameBytes, Passed};
 ghost use Rattle.lower.specs.Stores.{stores};
 ghost use Rattle.house_write.specs.Write.{WriteIs};
 use crate::tally;
@@ -23,7 +25,9 @@ pub struct Seen {
     pub length: usize,
 }
 
-pub fn refused(number: usize, at: usize) -> Seen {
+pub fn refused(number: usize, at: usize) -> Seen
+    ensures { λ r. ⌜ r ≡ refusedSeen number at ⌝ }
+{
     Seen {
         number: number,
         at: at,
@@ -39,11 +43,15 @@ pub fn refused(number: usize, at: usize) -> Seen {
     }
 }
 
-pub fn nothing() -> Seen {
+pub fn nothing() -> Seen
+    ensures { λ r. ⌜ r ≡ refusedSeen 255 0 ⌝ }
+{
     refused(255, 0)
 }
 
-fn done(z: Sizes, terms: usize, written: usize, length: usize) -> Seen {
+fn done(z: Sizes, terms: usize, written: usize, length: usize) -> Seen
+    ensures { λ r. ⌜ r ≡ doneSeen z terms written length ⌝ }
+{
     Seen {
         number: 0,
         at: 0,
@@ -59,7 +67,9 @@ fn done(z: Sizes, terms: usize, written: usize, length: usize) -> Seen {
     }
 }
 
-fn same_counts(a: Seen, b: Seen) -> bool {
+fn same_counts(a: Seen, b: Seen) -> bool
+    ensures { λ r. ⌜ r ≡ sameCounts a b ⌝ }
+{
     if a.wires != b.wires {
         return false;
     }
@@ -78,7 +88,9 @@ fn same_counts(a: Seen, b: Seen) -> bool {
     a.linears == b.linears
 }
 
-pub fn same(a: Seen, b: Seen) -> bool {
+pub fn same(a: Seen, b: Seen) -> bool
+    ensures { λ r. ⌜ r ≡ sameSeen a b ⌝ }
+{
     if a.number != b.number {
         return false;
     }
@@ -97,7 +109,9 @@ pub fn same(a: Seen, b: Seen) -> bool {
     same_counts(a, b)
 }
 
-fn written(z: Sizes, terms: usize, w: Written) -> Seen {
+fn written(z: Sizes, terms: usize, w: Written) -> Seen
+    ensures { λ r. ⌜ r ≡ writtenSeen z terms w ⌝ }
+{
     match w {
         Written::Done { length } => done(z, terms, 0, length),
         Written::Refused { number } => done(z, terms, number as usize, 0),
@@ -132,7 +146,9 @@ pub fn store(
     )
 }
 
-pub fn pass(file: &[u8], out: &mut [u8]) -> Seen {
+pub fn pass(file: &[u8], out: &mut [u8]) -> Seen
+    ensures { λ r. ⌜ Passed (now (file .entry)) (now (out .entry)) r (now (out .exit)) ⌝ }
+{
     let mut terms = [0u64; 8192];
     let mut ands = [0u64; 3072];
     let mut imuls = [0u64; 4096];
@@ -172,7 +188,9 @@ pub fn pass(file: &[u8], out: &mut [u8]) -> Seen {
     }
 }
 
-fn equal(a: &[u8], b: &[u8]) -> bool {
+fn equal(a: &[u8], b: &[u8]) -> bool
+    ensures { λ r. ⌜ r ≡ sameBytes (now (a .entry)) (now (b .entry)) ⌝ }
+{
     if a.len() != b.len() {
         return false;
     }
