@@ -9,6 +9,10 @@
 --   sameBytes a b     the two lists are the same
 --   Held, passOf      what reading a file leaves in stores of 8,192 terms and the limits' rows and definitions, and what writing that gives
 --   Passed            that, and the lent bytes afterwards
+--   State             the two lent stores of bytes, and what was counted
+--   againOf           what was written is read and written once more: it changes nothing
+--   vectorOf          one vector: read, written, held against what it asks, and again where it is read
+--   vectorsOf         so many vectors from an offset on
 --   termMade ..       the i-th term, operand and wire of a system that is made; madeFrom f i n, n of them from the i-th on
 --
 -- Assumes nothing.
@@ -17,7 +21,7 @@ use mathlib.Core.Bool.{Bool, true, false, cond, _&&_}
 use mathlib.Core.List.{List, [], _∷_}
 use Prim.Native.Nat.{ℕ, zero, suc, _+_, _*_, _/_, _%_, _^_}
 use lib.Dec.{leb, eqb}
-use lib.ListN.{length, replicate}
+use lib.ListN.{length, take, drop, replicate}
 use lib.Seq.{sets}
 use Rattle.operand.specs.Numbers.{termNumber, operandNumber}
 use Rattle.lower.specs.declared.Sizes.{Sizes}
@@ -126,6 +130,70 @@ bytesAfter es (R.Done z terms) out = sets out 0 (bytesBy (writeFault z (heldOf e
 pub record Passed (s out : List ℕ) (r : Seen) (out′ : List ℕ) : Type 0 where
   pub seen-is : r ≡ passBy (entriesRead s (readIn s)) (readIn s) (length out)
   pub bytes-are : out′ ≡ bytesAfter (entriesRead s (readIn s)) (readIn s) out
+
+-- ---- vectors
+
+abbrev pub passSeen : List ℕ → ℕ → Seen
+passSeen s room = passBy (entriesRead s (readIn s)) (readIn s) room
+
+abbrev pub passBytes : List ℕ → List ℕ → List ℕ
+passBytes s out = bytesAfter (entriesRead s (readIn s)) (readIn s) out
+
+unfoldable pub expectedAt : List ℕ → ℕ → ℕ → Seen
+expectedAt s at n =
+    cond (leb at (length s))
+    (record {
+      number = numberAt s at;
+      at = numberAt s (at + 4);
+      wires = numberAt s (at + 8);
+      ands = numberAt s (at + 12);
+      imuls = numberAt s (at + 16);
+      bmuls = numberAt s (at + 20);
+      zeros = numberAt s (at + 24);
+      linears = numberAt s (at + 28);
+      terms = numberAt s (at + 32);
+      written = 0;
+      length = cond (eqb (numberAt s at) 0) n 0;
+    })
+    (refusedSeen 255 0)
+
+pub record State : Type 0 where
+  pub one : List ℕ
+  pub two : List ℕ
+  pub tally : Tally
+
+abbrev pub stateOf : List ℕ → List ℕ → Tally → State
+stateOf one two t = record { one = one; two = two; tally = t }
+
+unfoldable pub comparedTally : Seen → List ℕ → List ℕ → Tally → Tally
+comparedTally seen file two t =
+    withBytes (counted (counted t (sameSeen seen (passSeen file (length two)))) (sameBytes file (take (length file) (passBytes file two)))) file
+
+unfoldable pub againOf : Seen → State → State
+againOf seen s =
+    cond (leb (seen .length) (length (s .one)) && leb (seen .length) (length (s .two)))
+    (stateOf (s .one) (passBytes (take (seen .length) (s .one)) (s .two)) (comparedTally seen (take (seen .length) (s .one)) (s .two) (s .tally)))
+    (stateOf (s .one) (s .two) (counted (s .tally) false))
+
+abbrev pub toldOf : Tally → Seen → Seen → Tally
+toldOf t seen asked = counted (withNumber (withNumber t (seen .number)) (seen .at)) (sameSeen seen asked)
+
+-- the file, and what it has to be answered with
+unfoldable pub fileOfVector : List ℕ → Seen → State → State
+fileOfVector file asked s =
+    cond (eqb (passSeen file (length (s .one)) .number) 0)
+    (againOf (passSeen file (length (s .one))) (stateOf (passBytes file (s .one)) (s .two) (toldOf (s .tally) (passSeen file (length (s .one))) asked)))
+    (stateOf (passBytes file (s .one)) (s .two) (toldOf (s .tally) (passSeen file (length (s .one))) asked))
+
+unfoldable pub vectorOf : List ℕ → ℕ → ℕ → State → State
+vectorOf input at n s =
+    cond (leb (at + n) (length input)) (fileOfVector (take n (drop at input)) (expectedAt input (at + n) n) s) (stateOf (s .one) (s .two) (counted (s .tally) false))
+
+unfoldable pub vectorsOf : List ℕ → ℕ → ℕ → State → State
+vectorsOf input zero at s = s
+vectorsOf input (suc k) at s =
+    cond (leb (length input) at) (stateOf (s .one) (s .two) (counted (s .tally) false))
+    (vectorsOf input k (at + 4 + numberAt input at + 36) (vectorOf input (at + 4) (numberAt input at) s))
 
 -- ---- systems that are made
 

@@ -1,7 +1,9 @@
 // A file read, and what was read written.
 ghost use mathlib.Core.Path.{_≡_};
 ghost use mathlib.Core.List.{[]};
-ghost use Rattle.replay_house.specs.Replay.{refusedSeen, doneSeen, writtenSeen, sameCounts, sameSeen, sameBytes, Passed};
+ghost use Prim.Native.Nat.{_≤_};
+ghost use lib.ListN.{length};
+ghost use Rattle.replay_house.specs.Replay.{refusedSeen, doneSeen, writtenSeen, sameCounts, sameSeen, sameBytes, Passed, passBytes, comparedTally, stateOf, againOf};
 ghost use Rattle.lower.specs.Stores.{stores};
 ghost use Rattle.house_write.specs.Write.{WriteIs};
 use crate::tally;
@@ -204,8 +206,21 @@ fn equal(a: &[u8], b: &[u8]) -> bool
     true
 }
 
-// The file at the front of `one` was written after `seen`: reading and writing it changes nothing.
-pub fn again(seen: Seen, one: &[u8], two: &mut [u8], t: Tally) -> Tally {
+// Reading and writing a file once more: what was seen is seen again, and what is written is the file.
+fn compared(seen: Seen, file: &[u8], two: &mut [u8], t: Tally) -> Tally
+    requires { ⌜ length (now file) ≤ length (now two) ⌝ }
+    ensures { λ r. ⌜ (r ≡ comparedTally seen (now (file .entry)) (now (two .entry)) t) × (now (two .exit) ≡ passBytes (now (file .entry)) (now (two .entry))) ⌝ }
+{
+    let n = file.len();
+    let is_same = same(seen, pass(file, &mut *two));
+    let is_equal = equal(file, &two[0..n]);
+    tally::bytes(tally::count(tally::count(t, is_same), is_equal), file)
+}
+
+// The file at the front of `one` was written after `seen`.
+pub fn again(seen: Seen, one: &[u8], two: &mut [u8], t: Tally) -> Tally
+    ensures { λ r. ⌜ stateOf (now (one .entry)) (now (two .exit)) r ≡ againOf seen (stateOf (now (one .entry)) (now (two .entry)) t) ⌝ }
+{
     let n = seen.length;
     if one.len() < n {
         return tally::count(t, false);
@@ -213,7 +228,5 @@ pub fn again(seen: Seen, one: &[u8], two: &mut [u8], t: Tally) -> Tally {
     if two.len() < n {
         return tally::count(t, false);
     }
-    let is_same = same(seen, pass(&one[0..n], &mut *two));
-    let is_equal = equal(&one[0..n], &two[0..n]);
-    tally::bytes(tally::count(tally::count(t, is_same), is_equal), &one[0..n])
+    compared(seen, &one[0..n], two, t)
 }

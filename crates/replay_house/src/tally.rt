@@ -9,16 +9,6 @@ pub struct Tally {
     pub digest: u64,
 }
 
-pub fn none() -> Tally
-    ensures { λ r. ⌜ (r .right ≡ 0) × ((r .wrong ≡ 0) × (r .digest ≡ 0)) ⌝ }
-{
-    Tally {
-        right: 0,
-        wrong: 0,
-        digest: 0,
-    }
-}
-
 pub fn count(t: Tally, right: bool) -> Tally
     ensures { λ r. ⌜ r ≡ counted t right ⌝ }
 {
