@@ -18,9 +18,11 @@ use Rattle.house_fill.specs.Layout.{Filled}
 use Rattle.house_read.specs.Answer.{ReadIs}
 use Rattle.house_write.specs.Write.{writeFault, writtenOf, bytesBy, WriteIs}
 use Rattle.house_write.specs.declared.Written.{Written}
-use Rattle.replay_house.specs.Replay.{numberAt, counted, withBytes, refusedSeen, writtenSeen, sameSeen, sameBytes, readIn, heldOf, passBy, bytesAfter, Passed, passSeen, passBytes, expectedAt, State, stateOf, comparedTally, againOf, toldOf, fileOfVector, vectorOf, vectorsOf}
+use Rattle.replay_house.specs.Replay.{numberAt, counted, withBytes, refusedSeen, writtenSeen, sameSeen, sameBytes, readIn, heldOf, passBy, bytesAfter, Passed, passSeen, passBytes, expectedAt, State, stateOf, comparedTally, againOf, toldOf, fileOfVector, vectorOf, vectorsOf, termMade, operandMade, wireMade, madeFrom, madeStores, madeBy, IsMade}
 use Rattle.replay_house.specs.declared.tally.Tally.{Tally}
 use Rattle.replay_house.specs.declared.pass.Seen.{Seen}
+use Rattle.replay_house.specs.declared.limits.Case.{Case}
+use Rattle.replay_house.specs.declared.limits.Made.{Made}
 
 module _ {s : List ℕ} {r : Read} {terms ands imuls bmuls zeros dsts rhss : List ℕ}
     (is : ReadIs s (replicate 8192 0) (replicate 3072 0) (replicate 4096 0) (replicate 6144 0) (replicate 1024 0) (replicate 1024 0) (replicate 1024 0) r terms ands imuls bmuls zeros dsts rhss) where
@@ -117,3 +119,37 @@ module _ (input : List ℕ) (at : ℕ) (s : State) where
   pub vectors-end : (k : ℕ) → k ≡ 0 → vectorsOf input k at s ≡ s
   unfolding vectorsOf
   vectors-end k e = rw e
+
+-- ---- systems that are made
+
+abbrev zeroes : ℕ → List ℕ
+zeroes n = replicate n 0
+
+-- all places of each store are made
+abbrev pub Whole : Case → List ℕ → List ℕ → List ℕ → List ℕ → List ℕ → List ℕ → List ℕ → Type 0
+Whole c terms ands imuls bmuls zeros dsts rhss =
+    (terms ≡ madeFrom (termMade (c .sizes .wires)) 0 (length (zeroes 11264)))
+    × ((ands ≡ madeFrom (operandMade (c .row)) 0 (length (zeroes 3075)))
+    × ((imuls ≡ madeFrom (operandMade (c .row)) 0 (length (zeroes 4100)))
+    × ((bmuls ≡ madeFrom (operandMade (c .row)) 0 (length (zeroes 6150)))
+    × ((zeros ≡ madeFrom (operandMade (c .row)) 0 (length (zeroes 1025)))
+    × ((dsts ≡ madeFrom (wireMade (c .sizes .wires)) 0 (length (zeroes 1025))) × (rhss ≡ madeFrom (operandMade (c .side)) 0 (length (zeroes 1025))))))))
+
+module _ (c : Case) {terms ands imuls bmuls zeros dsts rhss : List ℕ} where
+  pub make-is : {out out′ : List ℕ} {w : Written} {m : Made} → Whole c terms ands imuls bmuls zeros dsts rhss → WriteIs (c .sizes) (stores terms [] ands imuls bmuls zeros dsts rhss) out w out′ → m ≡ madeBy w
+      → IsMade c out m out′
+  make-is {out = out} y is e =
+      let z = c .sizes in
+      let row : ℕ → List ℕ = madeFrom (operandMade (c .row)) 0 in
+      let t = y .0 ∙ ap (madeFrom (termMade (z .wires)) 0) (length-replicate {A = ℕ} 11264 0) in
+      let a = y .1 .0 ∙ ap row (length-replicate {A = ℕ} 3075 0) in
+      let i = y .1 .1 .0 ∙ ap row (length-replicate {A = ℕ} 4100 0) in
+      let b = y .1 .1 .1 .0 ∙ ap row (length-replicate {A = ℕ} 6150 0) in
+      let o = y .1 .1 .1 .1 .0 ∙ ap row (length-replicate {A = ℕ} 1025 0) in
+      let d = y .1 .1 .1 .1 .1 .0 ∙ ap (madeFrom (wireMade (z .wires)) 0) (length-replicate {A = ℕ} 1025 0) in
+      let r = y .1 .1 .1 .1 .1 .1 ∙ ap (madeFrom (operandMade (c .side)) 0) (length-replicate {A = ℕ} 1025 0) in
+      let held : stores terms [] ands imuls bmuls zeros dsts rhss ≡ madeStores c = rw (t, a, i, b, o, d, r) in
+      record {
+        answer = e ∙ ap madeBy (is .answer ∙ ap (λ (h : Stores). writtenOf z h (length out)) held);
+        bytes-are = is .bytes-are ∙ ap (λ (h : Stores). sets out 0 (bytesBy (writeFault z h (length out)) (fileOf (systemOf z h)))) held;
+      }

@@ -14,6 +14,7 @@
 --   vectorOf          one vector: read, written, held against what it asks, and again where it is read
 --   vectorsOf         so many vectors from an offset on
 --   termMade ..       the i-th term, operand and wire of a system that is made; madeFrom f i n, n of them from the i-th on
+--   madeStores c      the stores of the system of a case; madeBy, what writing it gives
 --
 -- Assumes nothing.
 use mathlib.Core.Path.{_≡_}
@@ -38,6 +39,8 @@ use Rattle.house_write.specs.declared.Written.{Written}
 use Rattle.house_write.specs.declared.Written.the-variants as W
 use Rattle.replay_house.specs.declared.tally.Tally.{Tally}
 use Rattle.replay_house.specs.declared.pass.Seen.{Seen}
+use Rattle.replay_house.specs.declared.limits.Case.{Case}
+use Rattle.replay_house.specs.declared.limits.Made.{Made}
 
 unfoldable pub numberAt : List ℕ → ℕ → ℕ
 numberAt s at = cond (leb (at + 4) (length s)) (u16At s at + 65536 * u16At s (at + 2)) 0
@@ -209,3 +212,17 @@ wireMade wires i = cond (eqb wires 0) 0 (i % wires % 65536)
 unfoldable pub madeFrom : (ℕ → ℕ) → ℕ → ℕ → List ℕ
 madeFrom f i zero = []
 madeFrom f i (suc n) = f i ∷ madeFrom f (i + 1) n
+
+abbrev pub madeStores : Case → Stores
+madeStores c =
+    stores (madeFrom (termMade (c .sizes .wires)) 0 11264) [] (madeFrom (operandMade (c .row)) 0 3075) (madeFrom (operandMade (c .row)) 0 4100)
+    (madeFrom (operandMade (c .row)) 0 6150) (madeFrom (operandMade (c .row)) 0 1025) (madeFrom (wireMade (c .sizes .wires)) 0 1025)
+    (madeFrom (operandMade (c .side)) 0 1025)
+
+abbrev pub madeBy : Written → Made
+madeBy (W.Done n) = record { number = 0; length = n }
+madeBy (W.Refused f) = record { number = f; length = 0 }
+
+pub record IsMade (c : Case) (out : List ℕ) (r : Made) (out′ : List ℕ) : Type 0 where
+  pub answer : r ≡ madeBy (writtenOf (c .sizes) (madeStores c) (length out))
+  pub bytes-are : out′ ≡ sets out 0 (bytesBy (writeFault (c .sizes) (madeStores c) (length out)) (fileOf (systemOf (c .sizes) (madeStores c))))

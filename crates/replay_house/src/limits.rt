@@ -1,7 +1,7 @@
 // Files at the limits, made by loops, written, and read again.
 ghost use mathlib.Core.Path.{_≡_};
 ghost use lib.ListN.{length, set};
-ghost use Rattle.replay_house.specs.Replay.{termMade, operandMade, wireMade, madeFrom};
+ghost use Rattle.replay_house.specs.Replay.{termMade, operandMade, wireMade, madeFrom, madeBy, IsMade};
 use crate::pass;
 use crate::tally;
 use crate::tally::Tally;
@@ -311,7 +311,9 @@ fn fill(
     zeros: &mut [u64],
     dsts: &mut [u16],
     rhss: &mut [u64],
-) {
+)
+    ensures { λ _. ⌜ (now (terms .exit) ≡ madeFrom (termMade (c .sizes .wires)) 0 (length (now (terms .entry)))) × ((now (ands .exit) ≡ madeFrom (operandMade (c .row)) 0 (length (now (ands .entry)))) × ((now (imuls .exit) ≡ madeFrom (operandMade (c .row)) 0 (length (now (imuls .entry)))) × ((now (bmuls .exit) ≡ madeFrom (operandMade (c .row)) 0 (length (now (bmuls .entry)))) × ((now (zeros .exit) ≡ madeFrom (operandMade (c .row)) 0 (length (now (zeros .entry)))) × ((now (dsts .exit) ≡ madeFrom (wireMade (c .sizes .wires)) 0 (length (now (dsts .entry)))) × (now (rhss .exit) ≡ madeFrom (operandMade (c .side)) 0 (length (now (rhss .entry))))))))) ⌝ }
+{
     let row = c.row;
     let side = c.side;
     let wires = c.sizes.wires;
@@ -330,7 +332,9 @@ struct Made {
     length: usize,
 }
 
-fn by_answer(w: Written) -> Made {
+fn by_answer(w: Written) -> Made
+    ensures { λ r. ⌜ r ≡ madeBy w ⌝ }
+{
     match w {
         Written::Done { length } => Made {
             number: 0,
@@ -343,7 +347,9 @@ fn by_answer(w: Written) -> Made {
     }
 }
 
-fn make(c: Case, out: &mut [u8]) -> Made {
+fn make(c: Case, out: &mut [u8]) -> Made
+    ensures { λ r. ⌜ IsMade c (now (out .entry)) r (now (out .exit)) ⌝ }
+{
     let mut terms = [0u64; 11264];
     let mut ands = [0u64; 3075];
     let mut imuls = [0u64; 4100];
