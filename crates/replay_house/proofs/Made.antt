@@ -9,9 +9,10 @@ use native.Mathlib.Omega.{arith}
 use lib.ListN.{length, getD, set, drop, drop-of-length-le}
 use lib.Seq.{sets, sets-eq}
 use lib.Dec.{eqb}
-use borrow.Author.Tests.{eq-eqb, ne-eqb}
+use borrow.Author.Tests.{lt-ltb, le-ltb, eq-eqb, ne-eqb}
 use Rattle.lower.proofs.Firsts.{drop-step}
-use Rattle.replay_house.specs.Replay.{mixedOf, digestOf, sameBytes, madeFrom}
+use Rattle.replay_house.specs.Replay.{mixedOf, digestOf, sameBytes, madeFrom, cutFrom}
+use Rattle.house_file.specs.Decoding.{fieldEnd}
 
 -- ---- a store that is made
 
@@ -80,3 +81,25 @@ module _ (a b : List ℕ) (i : ℕ) (p : i < length a) (q : i < length b) where
 pub same-end : (a b : List ℕ) (i : ℕ) → length a ≤ i → length b ≤ i → sameBytes (drop i a) (drop i b) ≡ true
 unfolding sameBytes
 same-end a b i p q = rw (drop-of-length-le a {i = i} p, drop-of-length-le b {i = i} q)
+
+-- ---- a file cut
+
+module _ (file : List ℕ) (end at : ℕ) where
+  pub cut-head : (k : ℕ) → 0 < k → end < at + 3 → cutFrom file end k at ≡ at
+  unfolding cutFrom
+  cut-head zero h l = absurd (not-suc-le-zero h)
+  cut-head (suc k) h l = rw (lt-ltb end (at + 3) l)
+
+  pub cut-here : (k : ℕ) → 0 < k → at + 3 ≤ end → end < fieldEnd file at → cutFrom file end k at ≡ at
+  unfolding cutFrom
+  cut-here zero h l m = absurd (not-suc-le-zero h)
+  cut-here (suc k) h l m = rw (le-ltb end (at + 3) l, lt-ltb end (fieldEnd file at) m)
+
+  pub cut-on : (k : ℕ) → 0 < k → at + 3 ≤ end → fieldEnd file at ≤ end → cutFrom file end k at ≡ cutFrom file end (k - 1) (fieldEnd file at)
+  unfolding cutFrom
+  cut-on zero h l m = absurd (not-suc-le-zero h)
+  cut-on (suc k) h l m = rw (le-ltb end (at + 3) l, le-ltb end (fieldEnd file at) m, sub-one (suc k))
+
+  pub cut-end : (k : ℕ) → k ≡ 0 → cutFrom file end k at ≡ at
+  unfolding cutFrom
+  cut-end k e = rw e

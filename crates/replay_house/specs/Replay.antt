@@ -14,6 +14,8 @@
 --   vectorOf          one vector: read, written, held against what it asks, and again where it is read
 --   vectorsOf         so many vectors from an offset on
 --   termMade ..       the i-th term, operand and wire of a system that is made; madeFrom f i n, n of them from the i-th on
+--   caseOf ..         a case by its numbers: what is made, and what writing and reading it give
+--   cutAt file end    where the field starts that a file cut at `end` lacks the end of
 --   madeStores c      the stores of the system of a case; madeBy, what writing it gives
 --
 -- Assumes nothing.
@@ -21,14 +23,14 @@ use mathlib.Core.Path.{_≡_}
 use mathlib.Core.Bool.{Bool, true, false, cond, _&&_}
 use mathlib.Core.List.{List, [], _∷_}
 use Prim.Native.Nat.{ℕ, zero, suc, _+_, _*_, _/_, _%_, _^_}
-use lib.Dec.{leb, eqb}
+use lib.Dec.{ltb, leb, eqb}
 use lib.ListN.{length, take, drop, replicate}
 use lib.Seq.{sets}
 use Rattle.operand.specs.Numbers.{termNumber, operandNumber}
 use Rattle.lower.specs.declared.Sizes.{Sizes}
 use Rattle.lower.specs.Stores.{Stores, stores, systemOf}
 use Rattle.house_file.specs.Format.{Entry, LINEAR, fileOf}
-use Rattle.house_file.specs.Decoding.{u16At}
+use Rattle.house_file.specs.Decoding.{u16At, fieldEnd}
 use Rattle.house_file.specs.Reading.{readOf, entriesRead}
 use Rattle.house_file.specs.declared.Read.{Read}
 use Rattle.house_file.specs.declared.Read.the-variants as R
@@ -226,3 +228,17 @@ madeBy (W.Refused f) = record { number = f; length = 0 }
 pub record IsMade (c : Case) (out : List ℕ) (r : Made) (out′ : List ℕ) : Type 0 where
   pub answer : r ≡ madeBy (writtenOf (c .sizes) (madeStores c) (length out))
   pub bytes-are : out′ ≡ sets out 0 (bytesBy (writeFault (c .sizes) (madeStores c) (length out)) (fileOf (systemOf (c .sizes) (madeStores c))))
+
+abbrev pub caseOf : Sizes → ℕ → ℕ → ℕ → ℕ → ℕ → ℕ → Case
+caseOf z row side written grow number back =
+    record { sizes = z; row = row; side = side; written = written; grow = grow; number = number; back = back }
+
+abbrev pub sizesFrom : ℕ → ℕ → ℕ → ℕ → ℕ → ℕ → Sizes
+sizesFrom w a i b o l = record { wires = w; ands = a; imuls = i; bmuls = b; zeros = o; linears = l }
+
+unfoldable pub cutFrom : List ℕ → ℕ → ℕ → ℕ → ℕ
+cutFrom file end zero at = at
+cutFrom file end (suc k) at = cond (ltb end (at + 3)) at (cond (ltb end (fieldEnd file at)) at (cutFrom file end k (fieldEnd file at)))
+
+unfoldable pub cutAt : List ℕ → ℕ → ℕ
+cutAt file end = cond (leb end (length file)) (cutFrom file end end 0) 0

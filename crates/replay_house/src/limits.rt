@@ -1,7 +1,7 @@
 // Files at the limits, made by loops, written, and read again.
 ghost use mathlib.Core.Path.{_≡_};
 ghost use lib.ListN.{length, set};
-ghost use Rattle.replay_house.specs.Replay.{termMade, operandMade, wireMade, madeFrom, madeBy, IsMade};
+ghost use Rattle.replay_house.specs.Replay.{termMade, operandMade, wireMade, madeFrom, madeBy, IsMade, caseOf, sizesFrom, cutAt};
 use crate::pass;
 use crate::tally;
 use crate::tally::Tally;
@@ -31,7 +31,9 @@ fn counts(
     bmuls: usize,
     zeros: usize,
     linears: usize,
-) -> Sizes {
+) -> Sizes
+    ensures { λ r. ⌜ r ≡ sizesFrom wires ands imuls bmuls zeros linears ⌝ }
+{
     Sizes {
         wires: wires,
         ands: ands,
@@ -43,7 +45,9 @@ fn counts(
 }
 
 // A system that is not written.
-fn refused(sizes: Sizes, row: usize, side: usize, written: usize) -> Case {
+fn refused(sizes: Sizes, row: usize, side: usize, written: usize) -> Case
+    ensures { λ r. ⌜ r ≡ caseOf sizes row side written 0 0 0 ⌝ }
+{
     Case {
         sizes: sizes,
         row: row,
@@ -56,7 +60,9 @@ fn refused(sizes: Sizes, row: usize, side: usize, written: usize) -> Case {
 }
 
 // One that is, and whose file is not read.
-fn over(sizes: Sizes, row: usize, side: usize, grow: usize, back: usize) -> Case {
+fn over(sizes: Sizes, row: usize, side: usize, grow: usize, back: usize) -> Case
+    ensures { λ r. ⌜ r ≡ caseOf sizes row side 0 grow 6 back ⌝ }
+{
     Case {
         sizes: sizes,
         row: row,
@@ -69,7 +75,9 @@ fn over(sizes: Sizes, row: usize, side: usize, grow: usize, back: usize) -> Case
 }
 
 // One that reads back.
-fn fine(sizes: Sizes, row: usize, side: usize) -> Case {
+fn fine(sizes: Sizes, row: usize, side: usize) -> Case
+    ensures { λ r. ⌜ r ≡ caseOf sizes row side 0 0 0 0 ⌝ }
+{
     Case {
         sizes: sizes,
         row: row,
@@ -415,7 +423,9 @@ fn grow(file: &mut [u8], end: usize, n: usize) -> usize {
 }
 
 // Where the field starts that a file cut at `end` lacks the end of.
-fn cut_field(file: &[u8], end: usize) -> usize {
+fn cut_field(file: &[u8], end: usize) -> usize
+    ensures { λ r. ⌜ r ≡ cutAt (now (file .entry)) end ⌝ }
+{
     if file.len() < end {
         return 0;
     }
