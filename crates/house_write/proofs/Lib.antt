@@ -3,3 +3,4 @@ pub mod Storing
 pub mod Whole
 pub mod Answering
 pub mod Once
+pub mod Numbers

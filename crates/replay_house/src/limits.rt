@@ -1,6 +1,7 @@
 // Files at the limits, made by loops, written, and read again.
 ghost use mathlib.Core.Path.{_≡_};
-ghost use lib.ListN.{set};
+ghost use lib.ListN.{length, set};
+ghost use Rattle.replay_house.specs.Replay.{termMade, operandMade, wireMade, madeFrom, madeBy, IsMade, caseOf, sizesFrom, cutAt};
 use crate::pass;
 use crate::tally;
 use crate::tally::Tally;
@@ -30,7 +31,9 @@ fn counts(
     bmuls: usize,
     zeros: usize,
     linears: usize,
-) -> Sizes {
+) -> Sizes
+    ensures { λ r. ⌜ r ≡ sizesFrom wires ands imuls bmuls zeros linears ⌝ }
+{
     Sizes {
         wires: wires,
         ands: ands,
@@ -42,7 +45,9 @@ fn counts(
 }
 
 // A system that is not written.
-fn refused(sizes: Sizes, row: usize, side: usize, written: usize) -> Case {
+fn refused(sizes: Sizes, row: usize, side: usize, written: usize) -> Case
+    ensures { λ r. ⌜ r ≡ caseOf sizes row side written 0 0 0 ⌝ }
+{
     Case {
         sizes: sizes,
         row: row,
@@ -55,7 +60,9 @@ fn refused(sizes: Sizes, row: usize, side: usize, written: usize) -> Case {
 }
 
 // One that is, and whose file is not read.
-fn over(sizes: Sizes, row: usize, side: usize, grow: usize, back: usize) -> Case {
+fn over(sizes: Sizes, row: usize, side: usize, grow: usize, back: usize) -> Case
+    ensures { λ r. ⌜ r ≡ caseOf sizes row side 0 grow 6 back ⌝ }
+{
     Case {
         sizes: sizes,
         row: row,
@@ -68,7 +75,9 @@ fn over(sizes: Sizes, row: usize, side: usize, grow: usize, back: usize) -> Case
 }
 
 // One that reads back.
-fn fine(sizes: Sizes, row: usize, side: usize) -> Case {
+fn fine(sizes: Sizes, row: usize, side: usize) -> Case
+    ensures { λ r. ⌜ r ≡ caseOf sizes row side 0 0 0 0 ⌝ }
+{
     Case {
         sizes: sizes,
         row: row,
@@ -238,7 +247,9 @@ fn limit_at(i: usize) -> Case {
 }
 
 // The `i`-th term: it names a wire below the count, with shifts that there are.
-fn term_at(i: usize, wires: usize) -> u64 {
+fn term_at(i: usize, wires: usize) -> u64
+    ensures { λ r. ⌜ r ≡ termMade wires i ⌝ }
+{
     if wires == 0 {
         return 0;
     }
@@ -249,7 +260,9 @@ fn term_at(i: usize, wires: usize) -> u64 {
     )
 }
 
-fn fill_terms(store: &mut [u64], wires: usize) {
+fn fill_terms(store: &mut [u64], wires: usize)
+    ensures { λ _. ⌜ now (store .exit) ≡ madeFrom (termMade wires) 0 (length (now (store .entry))) ⌝ }
+{
     let mut i = 0;
     while i < store.len() {
         store[i] = term_at(i, wires);
@@ -258,7 +271,9 @@ fn fill_terms(store: &mut [u64], wires: usize) {
 }
 
 // An operand of so many terms, at the front of the terms.
-fn operand_at(i: usize, len: usize) -> u64 {
+fn operand_at(i: usize, len: usize) -> u64
+    ensures { λ r. ⌜ r ≡ operandMade len i ⌝ }
+{
     operand::valid::number(WireOperand {
         start: (i % 97) as u32,
         len: (len % 65536) as u32,
@@ -266,7 +281,9 @@ fn operand_at(i: usize, len: usize) -> u64 {
     })
 }
 
-fn fill_operands(store: &mut [u64], len: usize) {
+fn fill_operands(store: &mut [u64], len: usize)
+    ensures { λ _. ⌜ now (store .exit) ≡ madeFrom (operandMade len) 0 (length (now (store .entry))) ⌝ }
+{
     let mut i = 0;
     while i < store.len() {
         store[i] = operand_at(i, len);
@@ -274,14 +291,18 @@ fn fill_operands(store: &mut [u64], len: usize) {
     }
 }
 
-fn wire_at(i: usize, wires: usize) -> u16 {
+fn wire_at(i: usize, wires: usize) -> u16
+    ensures { λ r. ⌜ r ≡ wireMade wires i ⌝ }
+{
     if wires == 0 {
         return 0;
     }
     (i % wires % 65536) as u16
 }
 
-fn fill_wires(store: &mut [u16], wires: usize) {
+fn fill_wires(store: &mut [u16], wires: usize)
+    ensures { λ _. ⌜ now (store .exit) ≡ madeFrom (wireMade wires) 0 (length (now (store .entry))) ⌝ }
+{
     let mut i = 0;
     while i < store.len() {
         store[i] = wire_at(i, wires);
@@ -298,7 +319,9 @@ fn fill(
     zeros: &mut [u64],
     dsts: &mut [u16],
     rhss: &mut [u64],
-) {
+)
+    ensures { λ _. ⌜ (now (terms .exit) ≡ madeFrom (termMade (c .sizes .wires)) 0 (length (now (terms .entry)))) × ((now (ands .exit) ≡ madeFrom (operandMade (c .row)) 0 (length (now (ands .entry)))) × ((now (imuls .exit) ≡ madeFrom (operandMade (c .row)) 0 (length (now (imuls .entry)))) × ((now (bmuls .exit) ≡ madeFrom (operandMade (c .row)) 0 (length (now (bmuls .entry)))) × ((now (zeros .exit) ≡ madeFrom (operandMade (c .row)) 0 (length (now (zeros .entry)))) × ((now (dsts .exit) ≡ madeFrom (wireMade (c .sizes .wires)) 0 (length (now (dsts .entry)))) × (now (rhss .exit) ≡ madeFrom (operandMade (c .side)) 0 (length (now (rhss .entry))))))))) ⌝ }
+{
     let row = c.row;
     let side = c.side;
     let wires = c.sizes.wires;
@@ -317,7 +340,9 @@ struct Made {
     length: usize,
 }
 
-fn by_answer(w: Written) -> Made {
+fn by_answer(w: Written) -> Made
+    ensures { λ r. ⌜ r ≡ madeBy w ⌝ }
+{
     match w {
         Written::Done { length } => Made {
             number: 0,
@@ -330,7 +355,9 @@ fn by_answer(w: Written) -> Made {
     }
 }
 
-fn make(c: Case, out: &mut [u8]) -> Made {
+fn make(c: Case, out: &mut [u8]) -> Made
+    ensures { λ r. ⌜ IsMade c (now (out .entry)) r (now (out .exit)) ⌝ }
+{
     let mut terms = [0u64; 11264];
     let mut ands = [0u64; 3075];
     let mut imuls = [0u64; 4100];
@@ -396,7 +423,9 @@ fn grow(file: &mut [u8], end: usize, n: usize) -> usize {
 }
 
 // Where the field starts that a file cut at `end` lacks the end of.
-fn cut_field(file: &[u8], end: usize) -> usize {
+fn cut_field(file: &[u8], end: usize) -> usize
+    ensures { λ r. ⌜ r ≡ cutAt (now (file .entry)) end ⌝ }
+{
     if file.len() < end {
         return 0;
     }

@@ -2,8 +2,10 @@
 // length of a file, the file, and what it has to be answered with: number, offset, wires, five counts, terms. All numbers have four bytes.
 // What is printed: how many checks were right and wrong, and a digest of all that was read.
 ghost use mathlib.Core.Path.{_≡_};
-ghost use Prim.Native.Nat.{_<_};
-ghost use Rattle.replay_house.specs.Replay.{numberAt};
+ghost use Prim.Native.Nat.{_+_, _<_, _^_};
+ghost use Rattle.replay_house.specs.Replay.{numberAt, expectedAt, stateOf, fileOfVector, vectorOf, vectorsOf};
+ghost use mathlib.Core.Bool.{cond};
+ghost use lib.Dec.{eqb};
 use libc::STDIN_FILENO;
 use libc::STDOUT_FILENO;
 use pass::Seen;
@@ -26,13 +28,23 @@ fn number(input: &[u8], at: usize) -> usize
     house_file::num(input, at) + 65536 * house_file::num(input, at + 2)
 }
 
+fn length_if(fault: usize, n: usize) -> usize
+    ensures { λ r. ⌜ r ≡ cond (eqb fault 0) n 0 ⌝ }
+{
+    if fault == 0 {
+        return n;
+    }
+    0
+}
+
 // What a vector asks of a file of `n` bytes: nine numbers from `at` on. A file that is read is written again, in as many bytes.
-fn expected(input: &[u8], at: usize, n: usize) -> Seen {
+fn expected(input: &[u8], at: usize, n: usize) -> Seen
+    ensures { λ r. ⌜ r ≡ expectedAt (now (input .entry)) at n ⌝ }
+{
     if input.len() < at {
         return pass::nothing();
     }
     let fault = number(input, at);
-    let length = if fault == 0 { n } else { 0 };
     Seen {
         number: fault,
         at: number(input, at + 4),
@@ -44,31 +56,41 @@ fn expected(input: &[u8], at: usize, n: usize) -> Seen {
         linears: number(input, at + 28),
         terms: number(input, at + 32),
         written: 0,
-        length: length,
+        length: length_if(fault, n),
     }
 }
 
-// One vector: read and written, and what was written again.
-fn vector(input: &[u8], at: usize, n: usize, one: &mut [u8], two: &mut [u8], t: Tally) -> Tally {
-    if input.len() < at {
-        return tally::count(t, false);
-    }
-    if input.len() - at < n {
-        return tally::count(t, false);
-    }
-    let seen = pass::pass(&input[at..at + n], &mut *one);
-    let told = tally::count(
-        tally::answer(t, seen),
-        pass::same(seen, expected(input, at + n, n)),
-    );
+// One file: read and written, held against what it has to be answered with, and what was written again.
+fn file_of(file: &[u8], asked: Seen, one: &mut [u8], two: &mut [u8], t: Tally) -> Tally
+    ensures { λ r. ⌜ stateOf (now (one .exit)) (now (two .exit)) r ≡ fileOfVector (now (file .entry)) asked (stateOf (now (one .entry)) (now (two .entry)) t) ⌝ }
+{
+    let seen = pass::pass(file, &mut *one);
+    let told = tally::count(tally::answer(t, seen), pass::same(seen, asked));
     if seen.number != 0 {
         return told;
     }
     pass::again(seen, &*one, &mut *two, told)
 }
 
-fn vectors(input: &[u8], one: &mut [u8], two: &mut [u8]) -> Tally {
-    let mut t = tally::none();
+fn vector(input: &[u8], at: usize, n: usize, one: &mut [u8], two: &mut [u8], t: Tally) -> Tally
+    requires { ⌜ (at < 2 ^ 63 + 8) × (n < 4294967296) ⌝ }
+    ensures { λ r. ⌜ stateOf (now (one .exit)) (now (two .exit)) r ≡ vectorOf (now (input .entry)) at n (stateOf (now (one .entry)) (now (two .entry)) t) ⌝ }
+{
+    let end = at + n;
+    if input.len() < end {
+        return tally::count(t, false);
+    }
+    file_of(&input[at..end], expected(input, end, n), one, two, t)
+}
+
+fn vectors(input: &[u8], one: &mut [u8], two: &mut [u8]) -> Tally
+    ensures { λ r. ⌜ stateOf (now (one .exit)) (now (two .exit)) r ≡ vectorsOf (now (input .entry)) (numberAt (now (input .entry)) 0) 4 (stateOf (now (one .entry)) (now (two .entry)) (record { right = 0; wrong = 0; digest = 0 })) ⌝ }
+{
+    let mut t = Tally {
+        right: 0,
+        wrong: 0,
+        digest: 0,
+    };
     let mut left = number(input, 0);
     let mut at = 4;
     while 0 < left {

@@ -1,5 +1,9 @@
 // A file read, and what was read written.
+ghost use mathlib.Core.Path.{_≡_};
 ghost use mathlib.Core.List.{[]};
+ghost use Prim.Native.Nat.{_≤_};
+ghost use lib.ListN.{length};
+ghost use Rattle.replay_house.specs.Replay.{refusedSeen, doneSeen, writtenSeen, sameCounts, sameSeen, sameBytes, Passed, passBytes, comparedTally, stateOf, againOf};
 ghost use Rattle.lower.specs.Stores.{stores};
 ghost use Rattle.house_write.specs.Write.{WriteIs};
 use crate::tally;
@@ -23,7 +27,9 @@ pub struct Seen {
     pub length: usize,
 }
 
-pub fn refused(number: usize, at: usize) -> Seen {
+pub fn refused(number: usize, at: usize) -> Seen
+    ensures { λ r. ⌜ r ≡ refusedSeen number at ⌝ }
+{
     Seen {
         number: number,
         at: at,
@@ -39,11 +45,15 @@ pub fn refused(number: usize, at: usize) -> Seen {
     }
 }
 
-pub fn nothing() -> Seen {
+pub fn nothing() -> Seen
+    ensures { λ r. ⌜ r ≡ refusedSeen 255 0 ⌝ }
+{
     refused(255, 0)
 }
 
-fn done(z: Sizes, terms: usize, written: usize, length: usize) -> Seen {
+fn done(z: Sizes, terms: usize, written: usize, length: usize) -> Seen
+    ensures { λ r. ⌜ r ≡ doneSeen z terms written length ⌝ }
+{
     Seen {
         number: 0,
         at: 0,
@@ -59,7 +69,9 @@ fn done(z: Sizes, terms: usize, written: usize, length: usize) -> Seen {
     }
 }
 
-fn same_counts(a: Seen, b: Seen) -> bool {
+fn same_counts(a: Seen, b: Seen) -> bool
+    ensures { λ r. ⌜ r ≡ sameCounts a b ⌝ }
+{
     if a.wires != b.wires {
         return false;
     }
@@ -78,7 +90,9 @@ fn same_counts(a: Seen, b: Seen) -> bool {
     a.linears == b.linears
 }
 
-pub fn same(a: Seen, b: Seen) -> bool {
+pub fn same(a: Seen, b: Seen) -> bool
+    ensures { λ r. ⌜ r ≡ sameSeen a b ⌝ }
+{
     if a.number != b.number {
         return false;
     }
@@ -97,7 +111,9 @@ pub fn same(a: Seen, b: Seen) -> bool {
     same_counts(a, b)
 }
 
-fn written(z: Sizes, terms: usize, w: Written) -> Seen {
+fn written(z: Sizes, terms: usize, w: Written) -> Seen
+    ensures { λ r. ⌜ r ≡ writtenSeen z terms w ⌝ }
+{
     match w {
         Written::Done { length } => done(z, terms, 0, length),
         Written::Refused { number } => done(z, terms, number as usize, 0),
@@ -132,7 +148,9 @@ pub fn store(
     )
 }
 
-pub fn pass(file: &[u8], out: &mut [u8]) -> Seen {
+pub fn pass(file: &[u8], out: &mut [u8]) -> Seen
+    ensures { λ r. ⌜ Passed (now (file .entry)) (now (out .entry)) r (now (out .exit)) ⌝ }
+{
     let mut terms = [0u64; 8192];
     let mut ands = [0u64; 3072];
     let mut imuls = [0u64; 4096];
@@ -172,7 +190,9 @@ pub fn pass(file: &[u8], out: &mut [u8]) -> Seen {
     }
 }
 
-fn equal(a: &[u8], b: &[u8]) -> bool {
+fn equal(a: &[u8], b: &[u8]) -> bool
+    ensures { λ r. ⌜ r ≡ sameBytes (now (a .entry)) (now (b .entry)) ⌝ }
+{
     if a.len() != b.len() {
         return false;
     }
@@ -186,8 +206,21 @@ fn equal(a: &[u8], b: &[u8]) -> bool {
     true
 }
 
-// The file at the front of `one` was written after `seen`: reading and writing it changes nothing.
-pub fn again(seen: Seen, one: &[u8], two: &mut [u8], t: Tally) -> Tally {
+// Reading and writing a file once more: what was seen is seen again, and what is written is the file.
+fn compared(seen: Seen, file: &[u8], two: &mut [u8], t: Tally) -> Tally
+    requires { ⌜ length (now file) ≤ length (now two) ⌝ }
+    ensures { λ r. ⌜ (r ≡ comparedTally seen (now (file .entry)) (now (two .entry)) t) × (now (two .exit) ≡ passBytes (now (file .entry)) (now (two .entry))) ⌝ }
+{
+    let n = file.len();
+    let is_same = same(seen, pass(file, &mut *two));
+    let is_equal = equal(file, &two[0..n]);
+    tally::bytes(tally::count(tally::count(t, is_same), is_equal), file)
+}
+
+// The file at the front of `one` was written after `seen`.
+pub fn again(seen: Seen, one: &[u8], two: &mut [u8], t: Tally) -> Tally
+    ensures { λ r. ⌜ stateOf (now (one .entry)) (now (two .exit)) r ≡ againOf seen (stateOf (now (one .entry)) (now (two .entry)) t) ⌝ }
+{
     let n = seen.length;
     if one.len() < n {
         return tally::count(t, false);
@@ -195,7 +228,5 @@ pub fn again(seen: Seen, one: &[u8], two: &mut [u8], t: Tally) -> Tally {
     if two.len() < n {
         return tally::count(t, false);
     }
-    let is_same = same(seen, pass(&one[0..n], &mut *two));
-    let is_equal = equal(&one[0..n], &two[0..n]);
-    tally::bytes(tally::count(tally::count(t, is_same), is_equal), &one[0..n])
+    compared(seen, &one[0..n], two, t)
 }

@@ -1,4 +1,6 @@
 // Checks counted, and a digest of what was read.
+ghost use mathlib.Core.Path.{_≡_};
+ghost use Rattle.replay_house.specs.Replay.{counted, mixedOf, withNumber, withBytes};
 use crate::pass::Seen;
 
 pub struct Tally {
@@ -7,16 +9,10 @@ pub struct Tally {
     pub digest: u64,
 }
 
-pub fn none() -> Tally {
-    Tally {
-        right: 0,
-        wrong: 0,
-        digest: 0,
-    }
-}
-
-pub fn count(t: Tally, is_right: bool) -> Tally {
-    if is_right {
+pub fn count(t: Tally, right: bool) -> Tally
+    ensures { λ r. ⌜ r ≡ counted t right ⌝ }
+{
+    if right {
         return Tally {
             right: std::num::wrapping_add_u64(t.right, 1),
             wrong: t.wrong,
@@ -30,11 +26,15 @@ pub fn count(t: Tally, is_right: bool) -> Tally {
     }
 }
 
-pub fn mixed(digest: u64, n: u64) -> u64 {
+pub fn mixed(digest: u64, n: u64) -> u64
+    ensures { λ r. ⌜ r ≡ mixedOf digest n ⌝ }
+{
     (digest % 1000000007 * 31 + n % 1000000007) % 1000000007
 }
 
-fn with(t: Tally, n: u64) -> Tally {
+fn with(t: Tally, n: u64) -> Tally
+    ensures { λ r. ⌜ r ≡ withNumber t n ⌝ }
+{
     Tally {
         right: t.right,
         wrong: t.wrong,
@@ -42,12 +42,16 @@ fn with(t: Tally, n: u64) -> Tally {
     }
 }
 
-pub fn answer(t: Tally, seen: Seen) -> Tally {
+pub fn answer(t: Tally, seen: Seen) -> Tally
+    ensures { λ r. ⌜ r ≡ withNumber (withNumber t (seen .number)) (seen .at) ⌝ }
+{
     with(with(t, seen.number as u64), seen.at as u64)
 }
 
 // All bytes of a file.
-pub fn bytes(t: Tally, file: &[u8]) -> Tally {
+pub fn bytes(t: Tally, file: &[u8]) -> Tally
+    ensures { λ r. ⌜ r ≡ withBytes t (now (file .entry)) ⌝ }
+{
     let mut digest = t.digest;
     let mut i = 0;
     while i < file.len() {
