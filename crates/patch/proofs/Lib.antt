@@ -6,3 +6,5 @@ pub mod NeverOver
 pub mod Counting
 pub mod Samples
 pub mod Writing
+pub mod Turns
+pub mod Passing

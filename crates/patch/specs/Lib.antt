@@ -3,3 +3,4 @@ pub mod Expansion
 pub mod Patch
 pub mod Counts
 pub mod Steps
+pub mod Dry
