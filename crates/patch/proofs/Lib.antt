@@ -8,3 +8,5 @@ pub mod Samples
 pub mod Writing
 pub mod Turns
 pub mod Passing
+pub mod Unique
+pub mod Results
