@@ -10,3 +10,4 @@ pub mod Turns
 pub mod Passing
 pub mod Unique
 pub mod Results
+pub mod Handles

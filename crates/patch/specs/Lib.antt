@@ -4,3 +4,4 @@ pub mod Patch
 pub mod Counts
 pub mod Steps
 pub mod Dry
+pub mod Handles
