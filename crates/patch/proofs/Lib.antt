@@ -11,3 +11,4 @@ pub mod Passing
 pub mod Unique
 pub mod Results
 pub mod Handles
+pub mod Through
