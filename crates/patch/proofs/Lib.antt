@@ -12,3 +12,4 @@ pub mod Unique
 pub mod Results
 pub mod Handles
 pub mod Through
+pub mod Alive

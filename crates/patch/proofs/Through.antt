@@ -1,13 +1,12 @@
 -- Two shifts that a fold leaves let some bit through: a term that is written is never one that is always 0. Assumes nothing.
 use mathlib.Core.Path.{_≡_, refl, sym, ap, _∙_, subst}
-use Prim.Native.Nat.{ℕ, zero, suc, _<_, _≤_, _^_}
+use Prim.Native.Nat.{ℕ, _<_, _≤_, _^_}
 use native.Mathlib.Omega.{arith}
 use mathlib.Core.Bool.{Bool, true, false, cond}
 use lib.Dec.{T, ltb, eqb, eqb→eq, lit<}
-use borrow.Author.Tests.{ltb-true}
 use Rattle.word.specs.Word.{arithRight, turn, halves, signed, floorDiv, unsigned}
 use Rattle.word.proofs.Bits.{bit, bit-lt, bit-none, ext}
-use Rattle.word.proofs.Moves.{Moves, either, after}
+use Rattle.word.proofs.Moves.{Moves, either}
 use Rattle.word.proofs.Probes.{upto, below}
 use Rattle.shift.specs.declared.ShiftVariant.{ShiftVariant}
 use Rattle.shift.specs.declared.ShiftVariant.the-variants.{Sll, Slr, Sar, Rotr, Sll32, Srl32, Sra32, Rotr32}
@@ -20,10 +19,7 @@ use Rattle.shift.proofs.Linear.{moves, shifted-lt, still}
 use Rattle.operand.specs.declared.PushInner.the-variants.{Seq}
 use Rattle.operand.specs.Push.{pushValid, Canonical, unshifted, singly, doubly, Spelt}
 use Rattle.operand.proofs.Pushes.{push-canonical}
-
--- all bits
-abbrev pub ones : ℕ
-ones = 0xffff_ffff_ffff_ffff
+use Rattle.patch.specs.Alive.{ones}
 
 -- ---- bits of one word that are bits of another
 
