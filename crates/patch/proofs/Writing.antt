@@ -21,11 +21,11 @@ use Rattle.patch.specs.Steps.{Written, wrote, put, meet, writeDown, writ
 
 -- ---- stores
 
-sets-both : (l : List ℕ) (n : ℕ) (xs ys : List ℕ) → sets (sets l n xs) (n + length xs) ys ≡ sets l n (xs ++ ys)
+pub sets-both : (l : List ℕ) (n : ℕ) (xs ys : List ℕ) → sets (sets l n xs) (n + length xs) ys ≡ sets l n (xs ++ ys)
 sets-both l n [] ys = ap (λ (i : ℕ). sets l i ys) (omega arith)
 sets-both l n (x ∷ xs) ys = ap (λ (i : ℕ). sets (sets (set l n x) (suc n) xs) i ys) (omega arith) ∙ sets-both (set l n x) (suc n) xs ys
 
-sets-length : (l : List ℕ) (n : ℕ) (xs : List ℕ) → length (sets l n xs) ≡ length l
+pub sets-length : (l : List ℕ) (n : ℕ) (xs : List ℕ) → length (sets l n xs) ≡ length l
 sets-length l n [] = refl
 sets-length l n (x ∷ xs) = sets-length (set l n x) (suc n) xs ∙ length-set l n x
 
