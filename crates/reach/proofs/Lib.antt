@@ -1,2 +1,3 @@
 pub mod Joins
 pub mod Writing
+pub mod Meeting
