@@ -1,42 +1,37 @@
 -- An uncommitted definition is met while operands are rebuilt exactly where its mask is not 0. Assumes nothing.
-use mathlib.Core.Path.{_≡_, refl, sym, ap, _∙_, subst}
-use mathlib.Core.Bool.{Bool, true, false, cond}
-use mathlib.Core.List.{List, [], _∷_, _++_, List·Memᴰ}
+use mathlib.Core.Path.{_≡_, refl, sym, ap, _∙_}
+use mathlib.Core.Bool.{Bool, true}
+use mathlib.Core.List.{List, _++_, List·Memᴰ}
 use mathlib.Core.Option.{Option, none, some}
 use Prim.Native.Nat.{ℕ, zero, suc, _+_, _^_, _<_}
-use native.Mathlib.Omega.{arith}
-use lib.Dec.{eqb, lit<}
-use lib.Bits.{bitAnd, bitOr, and-zero-r}
-use borrow.Author.Tests.{eqb-true, eqb-false, eq-eqb}
-use Rattle.shift.specs.declared.Shift.{Shift}
+use lib.Dec.{lit<}
+use lib.Bits.{bitAnd, and-zero-r}
+use borrow.Author.Tests.{eqb-true, eq-eqb}
 use Rattle.shift.specs.Shifts.{shiftAt, applyOf}
 use Rattle.shift.proofs.Linear.{still, shifted-lt}
 use Rattle.operand.specs.declared.PushInner.{PushInner}
 use Rattle.operand.specs.declared.PushInner.the-variants.{Seq, Zero, OverBudget}
 use Rattle.operand.specs.Numbers.{Term, Operand}
-use Rattle.alive.specs.Masks.{ones, pulled}
-use Rattle.alive.proofs.Ors.{misses-or, misses-left, misses-right}
+use Rattle.alive.specs.Masks.{ones}
+use Rattle.alive.proofs.Ors.{misses-left, misses-right}
 use Rattle.alive.proofs.Pulls.{pulled-right}
 use Rattle.alive.proofs.Living.{shift-alive}
-use Rattle.lower.specs.Lists.{All, done, more, someOf, keep, joined}
-use Rattle.lower.specs.Model.{Row, Definition, System, definitionOf, defines, rowOperands, definitionOperands, operandsOf, termsOf}
-use Rattle.lower.specs.Accepted.{ShiftsOf, Shifted, Single, isIdentity, Once, NoCircle}
+use Rattle.lower.specs.Lists.{All, done, more, keep, joined}
+use Rattle.lower.specs.Model.{Row, Definition, System, defines, rowOperands, definitionOperands, termsOf}
+use Rattle.lower.specs.Accepted.{ShiftsOf, Shifted, Single, isIdentity}
 use Rattle.lower.proofs.Laws.{all-left, all-right, all-both}
 use Rattle.lower.proofs.Alls.{all-join, all-unjoin, all-unmap}
-use Rattle.lower.proofs.Somes.{none-all}
 use Rattle.lower.proofs.Accepts.{defines-none}
 use Rattle.commit_set.proofs.Members.{all-at, all-roots, all-terms}
 use Rattle.commit_set.proofs.Valids.{valid-at}
-use Rattle.patch.specs.Expansion.{under, folded, descend, DescendFits, below, BelowFits, metBy, met, FitsBy, Fits, Within}
-use Rattle.patch.specs.Patch.{inlined, depth, metTerm, metOperand, commits, rebuilt, rowRebuilds, rhssOf, rebuilds, allMet, NeverOver}
-use Rattle.patch.proofs.Parts.{Which, is-true, is-false, which, lost, clash, all-each, all-two, all-members, all-keep, all-mapped, all-gather, all-ungather}
-use Rattle.patch.proofs.Chains.{deep, inlined-defined}
-use Rattle.patch.proofs.Steady.{fits-opens, term-met}
-use Rattle.patch.proofs.Definitions.{looks-up, of-looked-up, inlined-uncommitted, commits-of}
-use Rattle.patch.proofs.NeverOver.{fits-shifts}
+use Rattle.patch.specs.Expansion.{under, folded, descend, DescendFits, metBy, met, FitsBy, Fits}
+use Rattle.patch.specs.Patch.{inlined, depth, metTerm, metOperand, rebuilt, rowRebuilds, rebuilds, allMet, NeverOver}
+use Rattle.patch.proofs.Parts.{Which, is-true, is-false, which, lost, all-members, all-keep, all-mapped, all-gather}
+use Rattle.patch.proofs.Chains.{inlined-defined}
+use Rattle.patch.proofs.Definitions.{of-looked-up, inlined-uncommitted, commits-of}
 use Rattle.reach.specs.Alive.{orAll, carried}
 use Rattle.reach.specs.Reach.{fromRoot, fromTerm, fromDefinition, IsReach}
-use Rattle.reach.proofs.Joins.{misses-all, misses-each, ones-all, pulled-clears, clears-pulled, fold-seq, fold-zero, fold-alive}
+use Rattle.reach.proofs.Joins.{misses-each, pulled-clears, fold-seq, fold-alive}
 use Rattle.reach.proofs.Writing.{inlined-shifts}
 
 -- ---- the terms of what is rebuilt
@@ -82,10 +77,10 @@ module _ (p : System) (c : ℕ → Bool) (shifted : Shifted p) (r : ℕ → ℕ)
   root-covered valid o m t k x b e =
       let h : ShiftsOf t = all-at ShiftsOf o t (all-at (All ShiftsOf) (rebuilds p c) o valid m) k in
       let n : bitAnd x (orAll (fromRoot (t .wire)) (joined (rebuilds p c))) ≡ 0
-          = misses-left 64 x (orAll (fromRoot (t .wire)) (joined (rebuilds p c))) (orAll (fromDefinition p c r (t .wire)) (p .linears)) b (ap (bitAnd x) (sym (is .sums (t .wire))) ∙ e) in
+      = misses-left 64 x (orAll (fromRoot (t .wire)) (joined (rebuilds p c))) (orAll (fromDefinition p c r (t .wire)) (p .linears)) b (ap (bitAnd x) (sym (is .sums (t .wire))) ∙ e) in
       let each = all-unjoin (λ (v : Term). bitAnd x (fromRoot (t .wire) v) ≡ 0) (rebuilds p c) (misses-each (fromRoot (t .wire)) x b (joined (rebuilds p c)) n) in
       let here : bitAnd x (fromRoot (t .wire) t) ≡ 0
-          = all-at (λ (v : Term). bitAnd x (fromRoot (t .wire) v) ≡ 0) o t (all-at (All (λ (v : Term). bitAnd x (fromRoot (t .wire) v) ≡ 0)) (rebuilds p c) o each m) k in
+      = all-at (λ (v : Term). bitAnd x (fromRoot (t .wire) v) ≡ 0) o t (all-at (All (λ (v : Term). bitAnd x (fromRoot (t .wire) v) ≡ 0)) (rebuilds p c) o each m) k in
       pulled-clears t h x b (rw (eq-eqb (t .wire) (t .wire) refl) at here)
 
   -- a term u of the definition of w takes in what of its wire has no part in the mask
@@ -93,7 +88,7 @@ module _ (p : System) (c : ℕ → Bool) (shifted : Shifted p) (r : ℕ → ℕ)
       → bitAnd (applyOf (shiftAt (u .inner)) x) (r w) ≡ 0
   term-takes w rhs e u m h x b z =
       let n : bitAnd x (orAll (fromDefinition p c r (u .wire)) (p .linears)) ≡ 0
-          = misses-right 64 x (orAll (fromRoot (u .wire)) (joined (rebuilds p c))) (orAll (fromDefinition p c r (u .wire)) (p .linears)) b (ap (bitAnd x) (sym (is .sums (u .wire))) ∙ z) in
+      = misses-right 64 x (orAll (fromRoot (u .wire)) (joined (rebuilds p c))) (orAll (fromDefinition p c r (u .wire)) (p .linears)) b (ap (bitAnd x) (sym (is .sums (u .wire))) ∙ z) in
       let one = of-looked-up {P = λ (d : Definition). bitAnd x (fromDefinition p c r (u .wire) d) ≡ 0} (misses-each (fromDefinition p c r (u .wire)) x b (p .linears) n) w rhs (inlined-defined p c w rhs e) in
       let here = all-at (λ (v : Term). bitAnd x (fromTerm (r w) (u .wire) v) ≡ 0) rhs u (misses-each (fromTerm (r w) (u .wire)) x b rhs (rw (inlined-uncommitted p c w rhs e) at one)) m in
       pulled-right (shiftAt (u .inner)) (valid-at (u .inner) (h .0)) x (r w) b (is .words w) .1 (rw (eq-eqb (u .wire) (u .wire) refl) at here)
