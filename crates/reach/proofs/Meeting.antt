@@ -69,33 +69,33 @@ module _ (p : System) (c : ℕ → Bool) (shifted : Shifted p) (r : ℕ → ℕ)
 
   -- ---- what the masks cover
 
-  -- a word that has no bit in the mask of its wire is cleared by the term's shifts
+  -- a word that has no bit in the mask of its wire, an uncommitted definition, is cleared by the term's shifts
   abbrev Covered : Term → Type 0
-  Covered t = (x : ℕ) → x < 2 ^ 64 → bitAnd x (r (t .wire)) ≡ 0 → carried t x ≡ 0
+  Covered t = (rhs : Operand) → D (t .wire) ≡ some rhs → (x : ℕ) → x < 2 ^ 64 → bitAnd x (r (t .wire)) ≡ 0 → carried t x ≡ 0
 
   root-covered : All (All ShiftsOf) (rebuilds p c) → (o : Operand) → List·Memᴰ o (rebuilds p c) → (t : Term) → List·Memᴰ t o → Covered t
-  root-covered valid o m t k x b e =
+  root-covered valid o m t k s d x b e =
       let h : ShiftsOf t = all-at ShiftsOf o t (all-at (All ShiftsOf) (rebuilds p c) o valid m) k in
       let n : bitAnd x (orAll (fromRoot (t .wire)) (joined (rebuilds p c))) ≡ 0
-      = misses-left 64 x (orAll (fromRoot (t .wire)) (joined (rebuilds p c))) (orAll (fromDefinition p c r (t .wire)) (p .linears)) b (ap (bitAnd x) (sym (is .sums (t .wire))) ∙ e) in
+      = misses-left 64 x (orAll (fromRoot (t .wire)) (joined (rebuilds p c))) (orAll (fromDefinition p c r (t .wire)) (p .linears)) b (ap (bitAnd x) (sym (is .sums (t .wire) s d)) ∙ e) in
       let each = all-unjoin (λ (v : Term). bitAnd x (fromRoot (t .wire) v) ≡ 0) (rebuilds p c) (misses-each (fromRoot (t .wire)) x b (joined (rebuilds p c)) n) in
       let here : bitAnd x (fromRoot (t .wire) t) ≡ 0
       = all-at (λ (v : Term). bitAnd x (fromRoot (t .wire) v) ≡ 0) o t (all-at (All (λ (v : Term). bitAnd x (fromRoot (t .wire) v) ≡ 0)) (rebuilds p c) o each m) k in
       pulled-clears t h x b (rw (eq-eqb (t .wire) (t .wire) refl) at here)
 
   -- a term u of the definition of w takes in what of its wire has no part in the mask
-  term-takes : (w : ℕ) (rhs : Operand) → D w ≡ some rhs → (u : Term) → List·Memᴰ u rhs → ShiftsOf u → (x : ℕ) → x < 2 ^ 64 → bitAnd x (r (u .wire)) ≡ 0
-      → bitAnd (applyOf (shiftAt (u .inner)) x) (r w) ≡ 0
-  term-takes w rhs e u m h x b z =
+  term-takes : (w : ℕ) (rhs : Operand) → D w ≡ some rhs → (u : Term) → List·Memᴰ u rhs → ShiftsOf u → (s : Operand) → D (u .wire) ≡ some s
+      → (x : ℕ) → x < 2 ^ 64 → bitAnd x (r (u .wire)) ≡ 0 → bitAnd (applyOf (shiftAt (u .inner)) x) (r w) ≡ 0
+  term-takes w rhs e u m h s d x b z =
       let n : bitAnd x (orAll (fromDefinition p c r (u .wire)) (p .linears)) ≡ 0
-      = misses-right 64 x (orAll (fromRoot (u .wire)) (joined (rebuilds p c))) (orAll (fromDefinition p c r (u .wire)) (p .linears)) b (ap (bitAnd x) (sym (is .sums (u .wire))) ∙ z) in
+      = misses-right 64 x (orAll (fromRoot (u .wire)) (joined (rebuilds p c))) (orAll (fromDefinition p c r (u .wire)) (p .linears)) b (ap (bitAnd x) (sym (is .sums (u .wire) s d)) ∙ z) in
       let one = of-looked-up {P = λ (d : Definition). bitAnd x (fromDefinition p c r (u .wire) d) ≡ 0} (misses-each (fromDefinition p c r (u .wire)) x b (p .linears) n) w rhs (inlined-defined p c w rhs e) in
       let here = all-at (λ (v : Term). bitAnd x (fromTerm (r w) (u .wire) v) ≡ 0) rhs u (misses-each (fromTerm (r w) (u .wire)) x b rhs (rw (inlined-uncommitted p c w rhs e) at one)) m in
       pulled-right (shiftAt (u .inner)) (valid-at (u .inner) (h .0)) x (r w) b (is .words w) .1 (rw (eq-eqb (u .wire) (u .wire) refl) at here)
 
   -- where the mask is 0 every word is
-  unmasked : (t : Term) → Covered t → (x : ℕ) → x < 2 ^ 64 → r (t .wire) ≡ 0 → carried t x ≡ 0
-  unmasked t g x b z = g x b (ap (bitAnd x) z ∙ and-zero-r x)
+  unmasked : (t : Term) → Covered t → (rhs : Operand) → D (t .wire) ≡ some rhs → (x : ℕ) → x < 2 ^ 64 → r (t .wire) ≡ 0 → carried t x ≡ 0
+  unmasked t g rhs e x b z = g rhs e x b (ap (bitAnd x) z ∙ and-zero-r x)
 
   -- ---- what is met has a mask
 
@@ -111,7 +111,7 @@ module _ (p : System) (c : ℕ → Bool) (shifted : Shifted p) (r : ℕ → ℕ)
           → (x : PushInner) → folded t u ≡ x → DescendFits (λ v. Fits D n v) (u .wire) x → All Masked (descend (λ v. met D n v) (u .wire) x)
       one ih rhs e h u m k (Seq i o) q l =
           ih (under (u .wire) i o) l (λ s d. fold-alive t h u k i o q)
-          (λ x b z. fold-seq t h u k i o q x b ∙ g (applyOf (shiftAt (u .inner)) x) (shifted-lt (shiftAt (u .inner)) (valid-at (u .inner) (k .0)) x b) (term-takes (t .wire) rhs e u m k x b z))
+          (λ s d x b z. fold-seq t h u k i o q x b ∙ g rhs e (applyOf (shiftAt (u .inner)) x) (shifted-lt (shiftAt (u .inner)) (valid-at (u .inner) (k .0)) x b) (term-takes (t .wire) rhs e u m k s d x b z))
       one ih rhs e h u m k Zero q l = done
       one ih rhs e h u m k OverBudget q l = done
 
@@ -119,7 +119,7 @@ module _ (p : System) (c : ℕ → Bool) (shifted : Shifted p) (r : ℕ → ℕ)
           → (o : Option Operand) → D (t .wire) ≡ o → FitsBy (λ u. Fits D n u) t o → All Masked (metBy (λ u. met D n u) t o)
       step ih none e k = done
       step ih (some rhs) e k =
-          more (λ z. a rhs e (unmasked t g ones (lit< tt) z))
+          more (λ z. a rhs e (unmasked t g rhs e ones (lit< tt) z))
           (all-gather (λ (u : Term). descend (λ v. met D n v) (u .wire) (folded t u))
           (all-members rhs (λ u m. one ih rhs e (k .0) u m (all-at ShiftsOf rhs u (inlined-shifts p c shifted (t .wire) rhs e) m) (folded t u) refl
           (all-at (λ (v : Term). DescendFits (λ y. Fits D n y) (v .wire) (folded t v)) rhs u (k .1) m))))

@@ -52,6 +52,10 @@ too-long : (D : ℕ → Option Operand) (n v : ℕ) → Within D n v → Chained
 too-long D zero v h (last rhs e) = lost e h
 too-long D (suc n) v h (link rhs u e m k) = too-long D n (u .wire) (all-at (λ (t : Term). Within D n (t .wire)) rhs u (h rhs e) m) k
 
+starts : {D : ℕ → Option Operand} {n v : ℕ} → Chained D n v → (rhs : Operand) × (D v ≡ some rhs)
+starts (last rhs e) = (rhs, e)
+starts (link rhs u e m k) = (rhs, e)
+
 -- one way of a condition or the other
 put : (P : ℕ → Type 0) (b : Bool) {x y : ℕ} → (b ≡ true → P x) → (b ≡ false → P y) → P (cond b x y)
 put P true f g = f refl
@@ -78,12 +82,12 @@ module _ (p : System) (c : ℕ → Bool) (once : Once (p .linears)) (no-circle :
 
   module _ (r q : ℕ → ℕ) (is : IsReach p c r) (js : IsReach p c q) where
     -- the masks of a wire agree where those of the definitions that name it do
-    agrees : (v : ℕ) → ((d : Definition) → List·Memᴰ d (p .linears) → c (d .dst) ≡ false → (u : Term) → List·Memᴰ u (d .rhs) → u .wire ≡ v → r (d .dst) ≡ q (d .dst)) → r v ≡ q v
-    agrees v f =
-        is .sums v
+    agrees : (v : ℕ) (rhs : Operand) → D v ≡ some rhs → ((d : Definition) → List·Memᴰ d (p .linears) → c (d .dst) ≡ false → (u : Term) → List·Memᴰ u (d .rhs) → u .wire ≡ v → r (d .dst) ≡ q (d .dst)) → r v ≡ q v
+    agrees v rhs e f =
+        is .sums v rhs e
         ∙ ap (bitOr (orAll (fromRoot v) (joined (rebuilds p c)))) (or-same (fromDefinition p c r v) (fromDefinition p c q v)
         (all-members (p .linears) (λ d m. same (c (d .dst)) _ _ (λ e. or-same (fromTerm (r (d .dst)) v) (fromTerm (q (d .dst)) v) (all-members (d .rhs) (λ u k. term d m e u k (eqb (u .wire) v) refl))))))
-        ∙ sym (js .sums v)
+        ∙ sym (js .sums v rhs e)
       where
         term : (d : Definition) → List·Memᴰ d (p .linears) → c (d .dst) ≡ false → (u : Term) → List·Memᴰ u (d .rhs) → (b : Bool) → eqb (u .wire) v ≡ b
             → cond b (pulled (shiftAt (u .inner)) (r (d .dst))) 0 ≡ cond b (pulled (shiftAt (u .inner)) (q (d .dst))) 0
@@ -92,11 +96,11 @@ module _ (p : System) (c : ℕ → Bool) (once : Once (p .linears)) (no-circle :
 
     up : (k n : ℕ) → n + k ≡ depth p c → (v : ℕ) → Chained D n v → r v ≡ q v
     up zero n e v h = absurd (let z : n ≡ depth p c = omega arith in too-long D n v (rw z (deep p c no-circle v)) h)
-    up (suc k) n e v h = agrees v (λ d m f u l z. up k (suc n) (omega arith) (d .dst) (link (d .rhs) u (put-in d m f) l (rw z h)))
+    up (suc k) n e v h = let s = starts h in agrees v (s .0) (s .1) (λ d m f u l z. up k (suc n) (omega arith) (d .dst) (link (d .rhs) u (put-in d m f) l (rw z h)))
 
     -- THE THEOREM: where there is no circle the masks are determined
-    pub reach-only : (v : ℕ) → r v ≡ q v
-    reach-only v = agrees v (λ d m f u l z. up (depth p c) 0 (omega arith) (d .dst) (last (d .rhs) (put-in d m f)))
+    pub reach-only : (v : ℕ) (rhs : Operand) → D v ≡ some rhs → r v ≡ q v
+    reach-only v rhs e = up (depth p c) 0 (omega arith) v (last rhs e)
 
   -- ---- what rebuilding comes to
 
@@ -150,11 +154,11 @@ module _ (p : System) (c : ℕ → Bool) (once : Once (p .linears)) (no-circle :
       Cleared v y = (t : Term) → Reached t → t .wire ≡ v → carried t y ≡ 0
 
       -- by the masks of the definitions that name v
-      misses : (v : ℕ) (y : ℕ) → y < 2 ^ 64 → Cleared v y
+      misses : (v : ℕ) (rhs : Operand) → D v ≡ some rhs → (y : ℕ) → y < 2 ^ 64 → Cleared v y
           → ((d : Definition) → List·Memᴰ d (p .linears) → c (d .dst) ≡ false → (u : Term) → List·Memᴰ u (d .rhs) → u .wire ≡ v
           → bitAnd (applyOf (shiftAt (u .inner)) y) (r (d .dst)) ≡ 0) → bitAnd y (r v) ≡ 0
-      misses v y b f g =
-          ap (bitAnd y) (is .sums v)
+      misses v rhs e y b f g =
+          ap (bitAnd y) (is .sums v rhs e)
           ∙ misses-or 64 y (orAll (fromRoot v) (joined (rebuilds p c))) (orAll (fromDefinition p c r v) (p .linears)) b
           (misses-all (fromRoot v) y b (all-join (λ (t : Term). bitAnd y (fromRoot v t) ≡ 0) (rebuilds p c) (all-members (rebuilds p c) (λ o m. all-members o (λ t k.
           put (λ (x : ℕ). bitAnd y x ≡ 0) (eqb (t .wire) v)
@@ -186,7 +190,7 @@ module _ (p : System) (c : ℕ → Bool) (once : Once (p .linears)) (no-circle :
 
       upward : (k n : ℕ) → n + k ≡ depth p c → (v : ℕ) → Chained D n v → (y : ℕ) → y < 2 ^ 64 → Cleared v y → bitAnd y (r v) ≡ 0
       upward zero n e v h y b f = absurd (let z : n ≡ depth p c = omega arith in too-long D n v (rw z (deep p c no-circle v)) h)
-      upward (suc k) n e v h y b f = misses v y b f (λ d m g u l z.
+      upward (suc k) n e v h y b f = let a = starts h in misses v (a .0) (a .1) y b f (λ d m g u l z.
           let s : ShiftsOf u = all-at ShiftsOf (d .rhs) u (inlined-shifts p c shifted (d .dst) (d .rhs) (put-in d m g)) l in
           upward k (suc n) (omega arith) (d .dst) (link (d .rhs) u (put-in d m g) l (rw z h)) (applyOf (shiftAt (u .inner)) y)
           (shifted-lt (shiftAt (u .inner)) (valid-at (u .inner) (s .0)) y b)

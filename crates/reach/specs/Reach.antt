@@ -5,7 +5,7 @@
 --   fromTerm m w u       the bits of w that u, a term of a definition of which the bits m get in, takes in
 --   fromDefinition r w   the bits of w that a definition takes in, none where it is committed
 --   reachBy r w          all of them, from the masks r of the definitions
---   IsReach r            every wire's mask is a word, and what the occurrences of the wire say
+--   IsReach r            every mask is a word, and that of an uncommitted definition is what the occurrences of its wire say
 --
 -- No order of the definitions is named.
 --
@@ -13,14 +13,15 @@
 use mathlib.Core.Path.{_≡_}
 use Prim.Native.Nat.{ℕ, _^_, _<_}
 use mathlib.Core.Bool.{Bool, cond}
+use mathlib.Core.Option.{some}
 use lib.Dec.{eqb}
 use lib.Bits.{bitOr}
 use Rattle.shift.specs.Shifts.{shiftAt}
-use Rattle.operand.specs.Numbers.{Term}
+use Rattle.operand.specs.Numbers.{Term, Operand}
 use Rattle.alive.specs.Masks.{ones, pulled}
 use Rattle.lower.specs.Lists.{joined}
 use Rattle.lower.specs.Model.{Definition, System}
-use Rattle.patch.specs.Patch.{rebuilds}
+use Rattle.patch.specs.Patch.{inlined, rebuilds}
 use Rattle.reach.specs.Alive.{orAll}
 
 abbrev pub fromRoot : ℕ → Term → ℕ
@@ -40,4 +41,4 @@ module _ (p : System) (c : ℕ → Bool) where
 
   pub record IsReach (r : ℕ → ℕ) : Type 0 where
     pub words : (w : ℕ) → r w < 2 ^ 64
-    pub sums : (w : ℕ) → r w ≡ reachBy r w
+    pub sums : (w : ℕ) (rhs : Operand) → inlined p c w ≡ some rhs → r w ≡ reachBy r w
