@@ -1,8 +1,8 @@
 -- The counts: definitions before = gone + stranded + committed, the other four lists keep their lengths, and kept. Assumes nothing.
-use mathlib.Core.Path.{_≡_, refl, sym, ap, _∙_}
+use mathlib.Core.Path.{_≡_, refl, ap, _∙_}
 use mathlib.Core.Logic.{_≢_}
 use mathlib.Core.Bool.{Bool, true, false, cond, not, _&&_}
-use mathlib.Core.List.{List, [], _∷_, _++_, append-nil}
+use mathlib.Core.List.{List, [], _∷_, append-nil}
 use mathlib.Core.Option.{Option, none, some}
 use Prim.Native.Nat.{ℕ, zero, suc, _+_, _≤_, _<_}
 use native.Mathlib.Omega.{arith}
@@ -10,8 +10,8 @@ use native.Mathlib.Decide.{ℕ-discrete}
 use lib.Dec.{eqb}
 use lib.ListN.{length, length-append, length-map}
 use borrow.Author.Tests.{eqb-true, eq-eqb}
-use Rattle.operand.specs.Numbers.{Term, Operand}
-use Rattle.lower.specs.Lists.{All, done, more, someOf, keep, sumOf}
+use Rattle.operand.specs.Numbers.{Operand}
+use Rattle.lower.specs.Lists.{All, more, someOf, keep, sumOf}
 use Rattle.lower.specs.Model.{Row, Definition, System, definitionOf}
 use Rattle.lower.specs.Accepted.{Once}
 use Rattle.lower.proofs.Accepts.{defines-none}

@@ -4,3 +4,11 @@ pub mod Steady
 pub mod Definitions
 pub mod NeverOver
 pub mod Counting
+pub mod Samples
+pub mod Writing
+pub mod Turns
+pub mod Passing
+pub mod Unique
+pub mod Results
+pub mod Handles
+pub mod Through

@@ -2,3 +2,6 @@ pub mod Lists
 pub mod Expansion
 pub mod Patch
 pub mod Counts
+pub mod Steps
+pub mod Dry
+pub mod Handles

@@ -1,0 +1,3 @@
+pub mod FillBack
+pub mod Demand3
+pub mod Steps

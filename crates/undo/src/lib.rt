@@ -1,0 +1,1 @@
+// That removing is undone by recomputing: definitions and theorems only.
