@@ -7,10 +7,6 @@ pub mod Counting
 pub mod Samples
 pub mod Writing
 pub mod Spells
-pub mod Turns
-pub mod Passing
 pub mod Unique
 pub mod Results
 pub mod Handles
-pub mod Through
-pub mod Alive

@@ -4,6 +4,4 @@ pub mod Patch
 pub mod Counts
 pub mod Steps
 pub mod Spelling
-pub mod Dry
 pub mod Handles
-pub mod Alive
