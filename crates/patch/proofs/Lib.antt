@@ -10,3 +10,4 @@ pub mod Spells
 pub mod Unique
 pub mod Results
 pub mod Handles
+pub mod Spelled
