@@ -7,7 +7,7 @@ use mathlib.Core.Option.{Option, none, some}
 use native.Mathlib.Omega.{arith}
 use lib.Dec.{eqb}
 use lib.ListN.{length, getD, set, drop, drop-of-length-le, length-set}
-use borrow.Author.Tests.{lt-ltb, le-ltb, eq-eqb}
+use borrow.Author.Tests.{lt-ltb, le-ltb, ne-eqb}
 use Rattle.shift.specs.declared.Shift.{Shift}
 use Rattle.shift.specs.Shifts.{Valid, numberOf, validNumber, shiftAt, applyOf}
 use Rattle.shift.proofs.Numbers.{number-back, number-valid, valid-low}
@@ -16,6 +16,7 @@ use Rattle.operand.specs.declared.PushInner.the-variants.{Seq, Zero, OverBudget
 use Rattle.operand.specs.Push.{pushValid}
 use Rattle.operand.specs.Numbers.{Term, Operand, termOf, termNumber, operandAt, termsAt}
 use Rattle.lower.specs.Lists.{All}
+use Rattle.lower.specs.Tables.{marked}
 use Rattle.lower.proofs.Firsts.{drop-step}
 use Rattle.lower.proofs.Alls.{all-unmap}
 use Rattle.legraph.proofs.Walks.{rhs-terms}
@@ -152,3 +153,6 @@ under-end go i o ts k m h = rw (drop-of-length-le ts h)
 pub term-read : (P : Term → Type 0) (old new rhss ts : List ℕ) (d k : ℕ) → ts ≡ termsAt old new (operandAt (getD rhss d 0)) → All P (rhsIn old new rhss d) → k < length ts → P (termOf (getD ts k 0))
 term-read P old new rhss ts d k e a h =
     all-get (λ (x : ℕ). P (termOf x)) ts k 0 (all-unmap P termOf ts (subst (All P) (sym (rhs-terms old new rhss ts d e)) a)) h
+
+pub marked-node : (l : List ℕ) (w d : ℕ) → getD l w 0 ≡ suc d → true ≡ marked l w
+marked-node l w d e = let z : eqb (suc d) 0 ≡ false = ne-eqb (suc d) 0 (λ h. omega (arith, h)) in rw (e, z)

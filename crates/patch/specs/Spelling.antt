@@ -19,7 +19,8 @@ use Rattle.operand.specs.declared.PushInner.{PushInner}
 use Rattle.operand.specs.declared.PushInner.the-variants.{Seq, Zero, OverBudget}
 use Rattle.operand.specs.Numbers.{Term, Operand, termNumber}
 use Rattle.operand.specs.Push.{pushValid}
-use Rattle.lower.specs.Lists.{All}
+use Rattle.lower.specs.Lists.{All, someOf}
+use Rattle.lower.specs.Tables.{marked}
 use Rattle.lower.specs.Stores.{Stands}
 use Rattle.legraph.specs.Walked.{rhsIn}
 use Rattle.patch.specs.declared.Cursor.{Cursor}
@@ -82,3 +83,10 @@ pub record Opens (s : Source) (d : ℕ) : Type 0 where
 
 abbrev pub Readable : Source → Type 0
 Readable s = (w d : ℕ) → getD (s .table) w 0 ≡ suc d → Opens s d
+
+-- some term names a defined wire, by the table; so with the operands of a row
+unfoldable pub namesOne : List ℕ → Operand → Bool
+namesOne table o = someOf (λ (t : Term). marked table (t .wire)) o
+
+unfoldable pub rowNames : List ℕ → List Operand → Bool
+rowNames table r = someOf (namesOne table) r

@@ -1,5 +1,6 @@
 // Expansion and the patched lists. Follows frontend/src/pass/fusion/patch.rs.
 pub mod expand;
+pub mod rebuild;
 
 // How many terms a store of new terms has, and whether a term found no room.
 pub struct Cursor {
