@@ -10,13 +10,14 @@ use lib.ListN.{length, getD, set, drop, drop-of-length-le, length-set}
 use borrow.Author.Tests.{lt-ltb, le-ltb, ne-eqb}
 use Rattle.shift.specs.declared.Shift.{Shift}
 use Rattle.shift.specs.Shifts.{Valid, numberOf, validNumber, shiftAt, applyOf}
-use Rattle.shift.proofs.Numbers.{number-back, number-valid, valid-low}
+use Rattle.shift.proofs.Numbers.{number-back, number-valid, number-there, valid-low}
 use Rattle.operand.specs.declared.PushInner.{PushInner}
 use Rattle.operand.specs.declared.PushInner.the-variants.{Seq, Zero, OverBudget}
 use Rattle.operand.specs.Push.{pushValid}
-use Rattle.operand.specs.Numbers.{Term, Operand, termOf, termNumber, operandAt, termsAt}
+use Rattle.operand.specs.Numbers.{Term, Operand, termOf, termNumber, operandAt, termsAt, operandOf}
 use Rattle.lower.specs.Lists.{All}
 use Rattle.lower.specs.Tables.{marked}
+use Rattle.lower.specs.Accepted.{ShiftsOf}
 use Rattle.lower.proofs.Firsts.{drop-step}
 use Rattle.lower.proofs.Alls.{all-unmap}
 use Rattle.legraph.proofs.Walks.{rhs-terms}
@@ -24,7 +25,7 @@ use Rattle.commit_set.proofs.Members.{all-get}
 use Rattle.legraph.specs.Walked.{rhsIn}
 use Rattle.patch.specs.declared.Cursor.{Cursor}
 use Rattle.patch.specs.Expansion.{under, Within}
-use Rattle.patch.specs.Steps.{Written, wrote, put, writeDown}
+use Rattle.patch.specs.Steps.{Written, wrote, put, writeDown, writeTerms}
 use Rattle.patch.specs.Spelling.{Source, placeOf, inPlace, inlinedNumber, aliveAt, dead, spelt, spellUnder, spellBy, spell}
 
 pub number-low : (s : Shift) → Valid s → numberOf s < 512
@@ -156,3 +157,25 @@ term-read P old new rhss ts d k e a h =
 
 pub marked-node : (l : List ℕ) (w d : ℕ) → getD l w 0 ≡ suc d → true ≡ marked l w
 marked-node l w d e = let z : eqb (suc d) 0 ≡ false = ne-eqb (suc d) 0 (λ h. omega (arith, h)) in rw (e, z)
+
+-- a term of valid shifts is told by its wire and its shifts
+pub under-root : (t : Term) → ShiftsOf t → under (t .wire) (shiftAt (t .inner)) (shiftAt (t .outer)) ≡ t
+under-root t h = ap₂ (λ (a b : ℕ). record { wire = t .wire; inner = a; outer = b }) (number-there (t .inner) (h .0)) (number-there (t .outer) (h .1))
+
+pub terms-step : (go : Term → Written → Written) (ts : List ℕ) (k : ℕ) (m : Written) → k < length ts
+    → writeTerms go (map termOf (drop k ts)) m ≡ writeTerms go (map termOf (drop (k + 1) ts)) (go (termOf (getD ts k 0)) m)
+unfolding writeTerms
+terms-step go ts k m h = rw (drop-step ts k 0 h)
+
+pub terms-end : (go : Term → Written → Written) (ts : List ℕ) (k : ℕ) (m : Written) → length ts ≤ k → writeTerms go (map termOf (drop k ts)) m ≡ m
+unfolding writeTerms
+terms-end go ts k m h = rw (drop-of-length-le ts h)
+
+-- what holds of an operand's terms holds of each that is read
+pub operand-read : (P : Term → Type 0) (old new ts : List ℕ) (h k : ℕ) → ts ≡ termsAt old new (operandAt h) → All P (operandOf old new h) → k < length ts → P (termOf (getD ts k 0))
+unfolding operandOf
+operand-read P old new ts h k e a l = all-get (λ (x : ℕ). P (termOf x)) ts k 0 (all-unmap P termOf ts (subst (λ (x : List ℕ). All P (map termOf x)) (sym e) a)) l
+
+pub operand-terms : (old new ts : List ℕ) (h : ℕ) → ts ≡ termsAt old new (operandAt h) → map termOf ts ≡ operandOf old new h
+unfolding operandOf
+operand-terms old new ts h e = ap (map termOf) e

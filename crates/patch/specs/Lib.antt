@@ -5,3 +5,4 @@ pub mod Counts
 pub mod Steps
 pub mod Spelling
 pub mod Handles
+pub mod Building
