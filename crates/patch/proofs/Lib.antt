@@ -12,4 +12,6 @@ pub mod Unique
 pub mod Results
 pub mod Handles
 pub mod Through
+pub mod Masks
 pub mod Alive
+pub mod Seen

@@ -347,3 +347,7 @@ canonical-through a b (doubly h k e) ha hb z = pair-through (a .variant) (b .var
 -- THE THEOREM. No two shifts that a fold leaves clear every word.
 pub fold-through : (i o s a b : Shift) → pushValid i o s 2 ≡ Seq a b → Valid a → Valid b → applyOf b (applyOf a ones) ≡ 0 → ⊥
 fold-through i o s a b e ha hb z = canonical-through a b (subst Spelt e (push-canonical i o s 2)) ha hb z
+
+-- nor does one valid shift
+pub single-through : (a : Shift) → Valid a → applyOf a ones ≡ 0 → ⊥
+single-through a ha z = positive (applyOf a ones) (below (λ n. ltb 0 (shifted (a .variant) n ones)) (widthOf (a .variant)) (some-bit (a .variant)) (a .amount) ha) z

@@ -6,3 +6,4 @@ pub mod Steps
 pub mod Dry
 pub mod Handles
 pub mod Alive
+pub mod Seen
