@@ -3,20 +3,21 @@ use mathlib.Core.Path.{_≡_, refl, sym, ap, ap₂, _∙_, subst}
 use Prim.Native.Nat.{ℕ, zero, suc, _+_, _*_, _≤_, _<_}
 use native.Mathlib.Omega.{arith}
 use native.Mathlib.Nat.{mul-suc}
-use mathlib.Core.Bool.{Bool, true, false, cond, not}
+use mathlib.Core.Bool.{Bool, true, false, cond, not, _&&_}
 use mathlib.Core.List.{List, [], _∷_, _++_, map, map-append, append-assoc, append-nil}
+use lib.Dec.{eqb}
 use lib.ListN.{length, take, drop, length-append, length-map, length-drop}
 use lib.Seq.{sets, take-at, drop-at, length-take-le, take-length}
 use Rattle.operand.specs.declared.WireOperand.{WireOperand}
 use Rattle.operand.specs.Numbers.{Term, Operand, termOf, termNumber, operandAt, operandNumber, operandOf}
 use Rattle.operand.proofs.Stored.{term-there, operand-there}
-use Rattle.lower.specs.Lists.{All, done, more, keep, joined}
-use Rattle.lower.specs.Model.{Row, Definition, System}
+use Rattle.lower.specs.Lists.{All, done, more, someOf, keep, joined}
+use Rattle.lower.specs.Model.{Row, Definition, System, destinations}
 use Rattle.lower.specs.Stores.{chunks, rowsOf, definitionsOf}
-use Rattle.lower.proofs.Laws.{all-left, all-right, all-both, joined-map, chunks-length, chunks-flat, operand-kept, operand-written, sets-below}
+use Rattle.lower.proofs.Laws.{all-left, all-right, all-both, joined-map, chunks-length, chunks-flat, operand-kept, operand-written, sets-below, definitions-same}
 use Rattle.lower.proofs.Alls.{all-unjoin}
 use Rattle.patch.specs.Lists.{gather, upTo}
-use Rattle.patch.specs.Patch.{expandOperand, rebuilt, rowRebuilds, patchRows, commits, commitAt}
+use Rattle.patch.specs.Patch.{rhssOf, expandOperand, rebuilt, rowRebuilds, patchRows, commits, commitAt, allMet, isStranded, stranded, rebuild, patched}
 use Rattle.patch.specs.Handles.{handlesFrom, keepBy, commitsFrom}
 use Rattle.patch.proofs.Parts.{all-each, all-keep, all-mapped, gather-append}
 use Rattle.patch.proofs.Counting.{length-parted}
@@ -190,6 +191,41 @@ definitions-append f [] es [] gs e = refl
 definitions-append f [] es (h ∷ hs) gs e = absurd (omega arith)
 definitions-append f (d ∷ ds) es [] gs e = absurd (omega arith)
 definitions-append f (d ∷ ds) es (h ∷ hs) gs e = ap (λ (l : List Definition). record { dst = d; rhs = f h } ∷ l) (definitions-append f ds es hs gs (omega arith))
+
+keep-by-length : (q : ℕ → Bool) (ds hs : List ℕ) → length ds ≡ length hs → length (keep q ds) ≡ length (keepBy q ds hs)
+unfolding keepBy
+keep-by-length q [] hs e = refl
+keep-by-length q (d ∷ ds) [] e = absurd (omega arith)
+keep-by-length q (d ∷ ds) (h ∷ hs) e = go (q d) (keep-by-length q ds hs (omega arith))
+  where
+    go : (b : Bool) → length (keep q ds) ≡ length (keepBy q ds hs) → length (cond b (d ∷ keep q ds) (keep q ds)) ≡ length (cond b (h ∷ keepBy q ds hs) (keepBy q ds hs))
+    go true k = ap suc k
+    go false k = k
+
+module _ (p : System) (c : ℕ → Bool) where
+  -- a wire's definition is neither rebuilt nor gone
+  abbrev pub stays : ℕ → Bool
+  stays w = not (c w) && not (someOf (eqb w) (allMet p c))
+
+  made-definitions : (g : ℕ → Operand) (ds : List Definition) (es : List ℕ) → map g es ≡ map (expandOperand p c) (rhssOf ds) → definitionsOf g (destinations ds) es ≡ map (rebuild p c) ds
+  unfolding rebuild
+  made-definitions g [] es e = refl
+  made-definitions g (d ∷ ds) [] e = absurd (let l = ap length e in omega (arith, l))
+  made-definitions g (d ∷ ds) (h ∷ es) e =
+      let first : g h ≡ expandOperand p c (d .rhs) = cc in
+      let next : map g es ≡ map (expandOperand p c) (rhssOf ds) = cc in
+      ap₂ {C = List Definition} _∷_ (ap (λ (o : Operand). record { dst = d .dst; rhs = o }) first) (made-definitions g ds es next)
+
+  -- closed up by destination, and the committed ones after them: the definitions of the patched system
+  pub linears-patched : (f g : ℕ → Operand) (ds hs es : List ℕ) → p .linears ≡ definitionsOf f ds hs → length ds ≡ length hs → All (λ (h : ℕ). g h ≡ f h) hs
+      → map g es ≡ map (expandOperand p c) (rhssOf (commits p c))
+      → definitionsOf g (keep stays ds ++ destinations (commits p c)) (keepBy stays ds hs ++ es) ≡ patched p c .linears
+  unfolding patched stranded isStranded
+  linears-patched f g ds hs es are long same new =
+      definitions-append g (keep stays ds) (destinations (commits p c)) (keepBy stays ds hs) es (keep-by-length stays ds hs long)
+      ∙ ap₂ {C = List Definition} _++_
+      (keep-definitions g stays ds hs long ∙ ap (keep (λ (d : Definition). stays (d .dst))) (definitions-same g f ds hs same ∙ sym are))
+      (made-definitions g (commits p c) es new)
 
 -- ---- committed definitions, one wire after the other
 
