@@ -23,10 +23,10 @@ pub record Moves (k : ℕ) (f : ℕ → ℕ) : Type 0 where
 pub either {ℓ} : {A : Type ℓ} (a b : ℕ) → (a < b → A) → (b ≤ a → A) → A
 either a b f g = elim (decLt a b) [ yes h ↦ f h | no h ↦ g (omega arith) ]
 
-bit-of-zero : (i : ℕ) → bit 0 i ≡ 0
+pub bit-of-zero : (i : ℕ) → bit 0 i ≡ 0
 bit-of-zero i = ap (λ (x : ℕ). x % 2) (zero-div (2 ^ i))
 
-pub left-moves : (k n : ℕ) → Moves k (left k n)
+unfoldable pub left-moves : (k n : ℕ) → Moves k (left k n)
 left-moves k n = record {
   place = λ i. cond (ltb i n) k (i - n);
   fits = λ w h. mod-lt (w * 2 ^ n) (pow-pos k);
@@ -35,14 +35,14 @@ left-moves k n = record {
       (λ (p : n ≤ i). ap (λ (x : ℕ). bit (w * 2 ^ n + 0) x) (sym (add-sub-of-le p)) ∙ bit-high w n (i - n) (pow-pos n) ∙ ap (λ (x : ℕ). bit w x) (sym (rw (le-ltb i n p))));
 }
 
-pub right-moves : (k n : ℕ) → Moves k (right n)
+unfoldable pub right-moves : (k n : ℕ) → Moves k (right n)
 right-moves k n = record {
   place = λ i. n + i;
   fits = λ w h. lt-of-le-of-lt (div-le-self w (2 ^ n)) h;
   from = λ w h i l. bit-shr w n i;
 }
 
-double : (k : ℕ) → 0 < k → 2 ^ k ≡ 2 ^ (k - 1) + 2 ^ (k - 1)
+pub double : (k : ℕ) → 0 < k → 2 ^ k ≡ 2 ^ (k - 1) + 2 ^ (k - 1)
 double k h = ap (λ (x : ℕ). 2 ^ x) e ∙ two-pow-succ (k - 1)
   where
     e : k ≡ suc (k - 1)
@@ -56,7 +56,7 @@ pub arith-high : (k n w : ℕ) → 2 ^ (k - 1) ≤ w → arithRight k n w ≡ 2 
 unfolding arithRight signed floorDiv unsigned
 arith-high k n w h = rw (le-ltb w (2 ^ (k - 1)) h)
 
-pub arith-moves : (k n : ℕ) → 0 < k → Moves k (arithRight k n)
+unfoldable pub arith-moves : (k n : ℕ) → 0 < k → Moves k (arithRight k n)
 arith-moves k n z = record {
   place = λ i. min (n + i) (k - 1);
   fits = λ w h. either w (2 ^ (k - 1))
@@ -89,7 +89,7 @@ arith-moves k n z = record {
           ap (λ (x : ℕ). bit w x) e,
         ))
 
-pub turn-moves : (k n : ℕ) → n < k → Moves k (turn k n)
+unfoldable pub turn-moves : (k n : ℕ) → n < k → Moves k (turn k n)
 unfolding turn
 turn-moves k n z = record {
   place = λ i. (n + i) % k;

@@ -1,0 +1,4 @@
+pub mod Ors
+pub mod Pulls
+pub mod Living
+pub mod Backs

@@ -1,0 +1,4 @@
+pub mod Joins
+pub mod Writing
+pub mod Meeting
+pub mod Reaching

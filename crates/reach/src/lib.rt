@@ -1,0 +1,1 @@
+// Which terms write something and which definitions are met, by one mask a wire.
