@@ -2,3 +2,4 @@ pub mod Joins
 pub mod Writing
 pub mod Meeting
 pub mod Reaching
+pub mod Storing
