@@ -3,3 +3,4 @@ pub mod Writing
 pub mod Meeting
 pub mod Reaching
 pub mod Storing
+pub mod Masking
