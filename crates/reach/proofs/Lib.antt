@@ -4,3 +4,4 @@ pub mod Meeting
 pub mod Reaching
 pub mod Storing
 pub mod Masking
+pub mod Pulling

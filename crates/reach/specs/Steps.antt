@@ -4,6 +4,10 @@
 --   maskAt l w          the mask of the wire w in the store l
 --   aliveStep h d l     the store l after the definition d: the mask of its wire is made from those of its terms' wires, unless it is committed
 --   aliveFrom h ds l    the store l after the definitions ds, the last one first
+--   pullTerm m u l      the store l after the term u of an operand of which the bits m get in; pullTerms, after an operand's terms;
+--                       pullOperands, after operands that are rebuilt, of which every bit gets in
+--   taken h d l         the bits of the definition d that get in: all, where it is committed
+--   reachStep h d l     the store l after the definition d; reachFrom, after the definitions ds, one after the other
 --   Usable n t          the term t names one of n wires, and its shift is valid
 --   Able h n d          what is needed of the definition d: it has its right side, its destination is one of n wires, its terms are usable
 --
@@ -14,8 +18,10 @@ use mathlib.Core.Bool.{Bool, true, cond}
 use mathlib.Core.List.{List, [], _∷_}
 use lib.Dec.{eqb}
 use lib.ListN.{length, getD, set}
-use Rattle.shift.specs.Shifts.{validNumber}
-use Rattle.operand.specs.Numbers.{Term, Operand}
+use lib.Bits.{bitOr}
+use Rattle.shift.specs.Shifts.{validNumber, shiftAt}
+use Rattle.operand.specs.Numbers.{Term, Operand, operandOf}
+use Rattle.alive.specs.Masks.{ones, pulled}
 use Rattle.lower.specs.Lists.{All}
 use Rattle.lower.specs.Stores.{Stands}
 use Rattle.legraph.specs.Walked.{rhsIn}
@@ -61,3 +67,26 @@ pub record Able (h : Held) (n d : ℕ) : Type 0 where
   pub place : dstAt h d < n
   pub stands : Stands (h .old) (h .new) (getD (h .rhss) d 0)
   pub usable : All (Usable n) (rhsAt h d)
+
+-- ---- the bits that get into rebuilt operands
+
+unfoldable pub pullTerm : ℕ → Term → List ℕ → List ℕ
+pullTerm m u l = set l (u .wire) (bitOr (maskAt l (u .wire)) (pulled (shiftAt (u .inner)) m))
+
+unfoldable pub pullTerms : ℕ → Operand → List ℕ → List ℕ
+pullTerms m [] l = l
+pullTerms m (u ∷ us) l = pullTerms m us (pullTerm m u l)
+
+unfoldable pub pullOperands : List ℕ → List ℕ → List ℕ → List ℕ → List ℕ
+pullOperands old new [] l = l
+pullOperands old new (h ∷ hs) l = pullOperands old new hs (pullTerms ones (operandOf old new h) l)
+
+abbrev pub taken : Held → ℕ → List ℕ → ℕ
+taken h d l = cond (committedAt h d) ones (maskAt l (dstAt h d))
+
+unfoldable pub reachStep : Held → ℕ → List ℕ → List ℕ
+reachStep h d l = pullTerms (taken h d l) (rhsAt h d) l
+
+unfoldable pub reachFrom : Held → List ℕ → List ℕ → List ℕ
+reachFrom h [] l = l
+reachFrom h (d ∷ ds) l = reachFrom h ds (reachStep h d l)

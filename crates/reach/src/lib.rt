@@ -4,6 +4,7 @@ ghost use Rattle.shift.specs.Shifts.{shiftAt};
 use shift::Shift;
 use shift::ShiftVariant;
 
+pub mod met;
 pub mod written;
 
 // The shift of a number; past the eight variants a number is taken for the first one.
