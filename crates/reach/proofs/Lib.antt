@@ -5,3 +5,4 @@ pub mod Reaching
 pub mod Storing
 pub mod Masking
 pub mod Pulling
+pub mod Taking
