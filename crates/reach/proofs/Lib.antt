@@ -6,3 +6,4 @@ pub mod Storing
 pub mod Masking
 pub mod Pulling
 pub mod Taking
+pub mod Sums

@@ -2,13 +2,11 @@
 -- Assumes nothing.
 use mathlib.Core.Path.{_≡_, refl, sym, ap, _∙_, subst}
 use mathlib.Core.Logic.{_↔_}
-use Prim.Native.Nat.{ℕ, zero, suc, _^_, _≤_, _<_}
-use native.Mathlib.Omega.{arith}
+use Prim.Native.Nat.{ℕ, _^_, _<_}
 use mathlib.Core.Bool.{Bool, true, false, cond}
 use mathlib.Core.List.{List, [], _∷_, List·Memᴰ, List·Memᴰ·head, List·Memᴰ·tail, List·Memᴰ·not-nil}
-use mathlib.Core.Option.{Option, none, some}
 use lib.Dec.{eqb, lit<}
-use lib.ListN.{length, getD, set, length-set}
+use lib.ListN.{length, getD, length-set}
 use lib.Seq.{getD-set-same, getD-set-other}
 use lib.Bits.{bitAnd, bitOr, and-zero-r, or-lt}
 use borrow.Author.Tests.{eqb-true, eqb-false}
@@ -21,13 +19,12 @@ use Rattle.alive.proofs.Pulls.{pulled-lt}
 use Rattle.lower.specs.Lists.{All, done, more}
 use Rattle.lower.specs.Model.{System, destinations}
 use Rattle.lower.specs.Accepted.{Once}
-use Rattle.legraph.specs.Uses.{dstOf, rhsOf}
 use Rattle.legraph.specs.Orders as O
 use Rattle.legraph.specs.Orders.{Link, Posted}
 use Rattle.legraph.proofs.Walking.{links-in}
 use Rattle.legraph.proofs.Listing.{tableOf, found-by}
 use Rattle.commit_set.proofs.Valids.{valid-at}
-use Rattle.patch.proofs.Parts.{all-each, all-members}
+use Rattle.patch.proofs.Parts.{all-members}
 use Rattle.reach.specs.Reach.{fromTerm}
 use Rattle.reach.specs.Steps.{Held, rhsAt, dstAt, committedAt, maskAt, pullTerm, pullTerms, pullOperands, taken, reachStep, reachFrom, Usable}
 use Rattle.reach.proofs.Masking.{Holds}
