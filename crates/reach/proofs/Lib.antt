@@ -7,3 +7,4 @@ pub mod Masking
 pub mod Pulling
 pub mod Taking
 pub mod Sums
+pub mod Theorem
