@@ -1,19 +1,18 @@
 -- The refusals of deciding in their order, what the walk has come to, and that there is one answer.
 -- Assumes nothing.
-use mathlib.Core.Path.{_≡_, refl, sym, ap, _∙_, subst}
-use Prim.Native.Nat.{ℕ, zero, suc, _+_, _≤_, _<_}
+use mathlib.Core.Path.{_≡_, refl, sym, _∙_, subst}
+use Prim.Native.Nat.{ℕ, _≤_, _<_}
 use mathlib.Core.List.{List, List·Memᴰ}
 use mathlib.Core.Bool.{Bool, true, false, _||_}
 use native.Mathlib.Omega.{arith}
-use lib.ListN.{length, getD, take, drop, replicate, length-replicate}
+use lib.ListN.{length, take, drop, replicate, length-replicate}
 use lib.Dec.{eqb}
 use borrow.Author.Tests.{eqb-true}
 use Rattle.lower.specs.declared.Sizes.{Sizes}
 use Rattle.lower.specs.Lists.{All}
-use Rattle.lower.specs.Model.{System}
 use Rattle.lower.specs.Accepted.{Once, Reaches, NoCircle}
 use Rattle.lower.specs.Stores.{Stores, systemOf}
-use Rattle.lower.specs.Faults.{orElse, unless, memoryFault, definitionFault}
+use Rattle.lower.specs.Faults.{memoryFault, definitionFault}
 use Rattle.lower.proofs.Firsts.{else-some, else-none, else-first, else-second, unless-holds}
 use Rattle.lower.proofs.Checks.{checked, dsts-small, memory-places, memory-wires, memory-definitions}
 use Rattle.lower.proofs.Explains.{proper-right}
@@ -23,7 +22,7 @@ use Rattle.legraph.specs.Walked.{Walked, walkOf, orderOf, rhsIn, There, Sound}
 use Rattle.legraph.proofs.Listing.{tableOf}
 use Rattle.legraph.proofs.Theorem.{count, small, rhs-same, table-made, all-there, sound, Ends, ends}
 use Rattle.commit_set.specs.Orders.{InOrder}
-use Rattle.commit_set.specs.Answer.{SLOTS, slotsFault, decisionFault}
+use Rattle.commit_set.specs.Answer.{slotsFault, decisionFault}
 use Rattle.commit_set.proofs.Ordering.{in-order}
 
 pub slots-right : (slots : ℕ) → slotsFault slots ≡ 0 → slots ≤ 2

@@ -1,6 +1,6 @@
 -- Joining one context after the other, from the first, is joining them all. Assumes nothing.
 use mathlib.Core.Path.{_≡_, refl, sym, ap, ap₂, _∙_}
-use Prim.Native.Nat.{ℕ, zero, _+_, _*_, _/_, _%_, max, _<_}
+use Prim.Native.Nat.{ℕ, _+_, _*_, _/_, _%_, max}
 use mathlib.Core.List.{List, [], _∷_}
 use native.Mathlib.Omega.{arith}
 use lib.Arith.{bin-ind}

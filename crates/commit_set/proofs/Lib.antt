@@ -25,3 +25,4 @@ pub mod Stepping
 pub mod Deciding
 pub mod Preparing
 pub mod Answers
+pub mod Theorem

@@ -1,22 +1,21 @@
 -- The order that the walk ends with takes each definition after all that name it; so every accepted system has exactly one solution.
 -- Assumes nothing.
-use mathlib.Core.Path.{_≡_, refl, sym, ap, _∙_, subst}
-use Prim.Native.Nat.{ℕ, zero, suc, _+_, _≤_, _<_}
+use mathlib.Core.Path.{_≡_, refl, ap, _∙_, subst}
+use Prim.Native.Nat.{ℕ, _<_}
 use mathlib.Core.List.{List, [], _∷_, List·Memᴰ, List·Memᴰ·head, List·Memᴰ·tail, List·Memᴰ·not-nil}
-use mathlib.Core.Bool.{Bool, true, false, cond}
+use mathlib.Core.Bool.{Bool, true, false}
 use mathlib.Core.Logic.{_⊎_, inl, inr, ⊎-elim}
 use native.Mathlib.Omega.{arith}
 use lib.ListN.{length, replicate, length-replicate}
-use lib.Dec.{eqb}
-use borrow.Author.Tests.{eqb-true, eqb-false}
 use Rattle.operand.specs.Numbers.{Operand}
 use Rattle.lower.specs.Lists.{All}
 use Rattle.lower.specs.Model.{Definition, System, destinations}
 use Rattle.lower.specs.Accepted.{Once, NoCircle, Accepted}
 use Rattle.lower.proofs.Laws.{all-map}
-use Rattle.legraph.specs.Uses.{dstOf, rhsOf, names}
+use Rattle.legraph.specs.Uses.{rhsOf, names}
 use Rattle.legraph.specs.Walked.{Walked, walkOf, orderOf}
-use Rattle.legraph.specs.Orders.{Link, Posted, done, more}
+use Rattle.legraph.specs.Orders.{Link, Posted, more}
+use Rattle.legraph.proofs.Cases.{same-or-not}
 use Rattle.legraph.proofs.Walking.{Right, walk-right, links-in}
 use Rattle.legraph.proofs.Listing.{tableOf, found-at}
 use Rattle.legraph.proofs.Circles.{circle-reaches, names-link}
@@ -25,13 +24,6 @@ use Rattle.commit_set.specs.declared.Decision.the-variants.{Commit}
 use Rattle.commit_set.specs.Decision.{Solves}
 use Rattle.commit_set.specs.Orders.{put, takeAll, InOrder}
 use Rattle.commit_set.proofs.Orders.{put-here, put-there, order-found, order-only}
-
-same-or-not : {X : Type 0} (m n : ℕ) → (m ≡ n → X) → ((m ≡ n → ⊥) → X) → X
-same-or-not {X} m n p q = go (eqb m n) refl
-  where
-    go : (b : Bool) → eqb m n ≡ b → X
-    go true e = p (eqb-true m n e)
-    go false e = q (eqb-false m n e)
 
 module _ (p : System) (m : ℕ) (once : Once (p .linears)) (small : All (λ (d : ℕ). d < m) (destinations (p .linears)))
     (rhs : ℕ → Operand) (same : (d : ℕ) → d < length (p .linears) → rhs d ≡ rhsOf p d) where

@@ -1,37 +1,26 @@
 -- What the program makes of a system in stores is what deciding needs. Assumes nothing.
-use mathlib.Core.Path.{_≡_, refl, sym, ap, _∙_, subst}
+use mathlib.Core.Path.{_≡_, sym, subst}
 use Prim.Native.Nat.{ℕ, zero, suc, _+_, _≤_, _<_}
 use mathlib.Core.List.{List, [], _∷_, _++_, map}
-use mathlib.Core.Bool.{Bool, true, false, _&&_}
 use native.Mathlib.Omega.{arith}
 use lib.ListN.{length, getD, replicate, length-replicate, length-append}
-use lib.Dec.{ltb}
-use borrow.Author.Tests.{ltb-true}
-use Rattle.shift.specs.Shifts.{validNumber, valid, shiftAt}
+use Rattle.shift.proofs.Numbers.{valid-low}
 use Rattle.operand.specs.Numbers.{Term, Operand}
 use Rattle.lower.specs.declared.Sizes.{Sizes}
 use Rattle.lower.specs.Lists.{All, joined}
-use Rattle.lower.specs.Model.{Definition, System, rowOperands, definitionOperands, operandsOf, termsOf}
-use Rattle.lower.specs.Accepted.{Once, ShiftsOf, Shifted}
+use Rattle.lower.specs.Model.{Definition, System, rowOperands, definitionOperands, termsOf}
+use Rattle.lower.specs.Accepted.{Once, ShiftsOf}
 use Rattle.lower.specs.Stores.{Stores, systemOf, Placed}
 use Rattle.lower.specs.Faults.{memoryFault}
 use Rattle.lower.proofs.Laws.{all-imp, terms-model}
 use Rattle.lower.proofs.Checks.{checked, placed, memory-places, memory-terms, memory-definitions}
 use Rattle.lower.proofs.Explains.{standing-right}
 use Rattle.legraph.specs.Uses.{noDefinition, usesOf, dstOf, rhsOf}
-use Rattle.legraph.specs.Tables.{Graph, graph, noteAll, Linked}
-use Rattle.legraph.specs.Walked.{rhsIn}
+use Rattle.legraph.specs.Tables.{graph, noteAll}
 use Rattle.legraph.proofs.Listing.{Listed, Holds, tableOf, uses-right}
 use Rattle.legraph.proofs.Theorem.{count, small, rhs-same, all-there}
-use Rattle.commit_set.specs.Steps.{Held, held}
+use Rattle.commit_set.specs.Steps.{held}
 use Rattle.commit_set.proofs.Deciding.{Prepared}
-
-valid-low : (n : ℕ) → validNumber n ≡ true → n < 512
-valid-low n e = ltb-true n 512 (and-first (ltb n 512) (valid (shiftAt n)) e)
-  where
-    and-first : (a b : Bool) → (a && b) ≡ true → a ≡ true
-    and-first true b h = refl
-    and-first false b h = let z : _≡_ {A = ℕ} 0 1 = cc in absurd (omega arith)
 
 rhs-part : (ds : List Definition) (d : ℕ) → length (getD ds d noDefinition .rhs) ≤ length (joined (map (λ (x : Definition). x .rhs) ds))
 rhs-part [] d = omega arith

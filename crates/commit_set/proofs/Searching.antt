@@ -1,21 +1,19 @@
 -- What the search reads: shifts, contexts of uses, and sums. Assumes nothing.
 use mathlib.Core.Path.{_≡_, refl, sym, ap, _∙_}
-use Prim.Native.Nat.{ℕ, zero, suc, _+_, _-_, _/_, _%_, _≤_, _<_}
+use Prim.Native.Nat.{ℕ, zero, suc, _+_, _-_, _/_, _%_, _≤_}
 use mathlib.Core.Bool.{Bool, true, false, _||_}
-use mathlib.Core.List.{List, [], _∷_, map}
+use mathlib.Core.List.{List, [], _∷_}
 use native.Mathlib.Omega.{arith}
 use lib.Dec.{ltb}
-use lib.ListN.{length, drop, length-map, List·getD-eq-default}
+use lib.ListN.{length, drop, List·getD-eq-default}
 use Rattle.shift.specs.declared.ShiftVariant.{ShiftVariant}
 use Rattle.shift.specs.declared.ShiftVariant.the-variants.{Sll, Slr, Sar, Rotr, Sll32, Srl32, Sra32, Rotr32}
 use Rattle.shift.specs.declared.Shift.{Shift}
-use Rattle.shift.specs.Shifts.{shiftAt, variantAt, by}
-use Rattle.legraph.specs.Uses.{Use}
+use Rattle.shift.specs.Shifts.{shiftAt, by}
 use Rattle.legraph.specs.Tables.{useAt, userAt}
 use Rattle.commit_set.specs.declared.ShiftSummary.{ShiftSummary}
 use Rattle.commit_set.specs.declared.CommitSetCx.{CommitSetCx}
 use Rattle.commit_set.specs.declared.Decision.{Decision}
-use Rattle.commit_set.specs.declared.Decision.the-variants.{Commit}
 use Rattle.commit_set.specs.Runs.{plus, fresh, join, joinAll}
 use Rattle.commit_set.specs.Decision.{below, contextBy, contextOf, someOver, commits, decide}
 use Rattle.commit_set.specs.Grounds.{concluded}

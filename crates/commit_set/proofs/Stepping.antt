@@ -1,14 +1,13 @@
 -- Deciding one definition after the other, one step at a time. Assumes nothing.
-use mathlib.Core.Path.{_≡_, refl, sym, ap, _∙_, subst}
+use mathlib.Core.Path.{_≡_, sym, ap, _∙_, subst}
 use Prim.Native.Nat.{ℕ, _+_, _≤_, _<_}
-use mathlib.Core.List.{List, [], _∷_, map}
+use mathlib.Core.List.{List, map}
 use lib.ListN.{length, getD, set, drop, drop-of-length-le, length-map}
 use Rattle.operand.specs.Numbers.{Operand, termOf, operandAt, termsAt}
 use Rattle.lower.proofs.Firsts.{drop-step}
 use Rattle.legraph.specs.Tables.{listed}
 use Rattle.legraph.specs.Walked.{rhsIn}
 use Rattle.legraph.proofs.Walks.{rhs-terms}
-use Rattle.commit_set.specs.declared.Decision.{Decision}
 use Rattle.commit_set.specs.Decision.{contextOf, shiftsOf, decide}
 use Rattle.commit_set.specs.Numbers.{decisionNumber, stateAt}
 use Rattle.commit_set.specs.Steps.{Held, decideIn, decidedFrom, Able, Ready}

@@ -1,11 +1,9 @@
 -- The shifts on every path of the patching are valid. Assumes nothing.
 use mathlib.Core.Path.{_≡_, subst}
 use Prim.Native.Nat.{ℕ}
-use mathlib.Core.Bool.{Bool, true, false, _&&_}
-use lib.Dec.{ltb}
-use borrow.Author.Tests.{ltb-true}
 use Rattle.shift.specs.declared.Shift.{Shift}
-use Rattle.shift.specs.Shifts.{widthOf, Valid, valid, validNumber, shiftAt}
+use Rattle.shift.proofs.Numbers.{valid-at}
+use Rattle.shift.specs.Shifts.{Valid, shiftAt}
 use Rattle.operand.specs.declared.PushInner.the-variants.{Seq}
 use Rattle.operand.specs.Push.{pushValid, PushRight}
 use Rattle.operand.proofs.Pushes.{push-right}
@@ -14,13 +12,6 @@ use Rattle.lower.specs.Accepted.{Shifted}
 use Rattle.commit_set.specs.declared.Decision.{Decision}
 use Rattle.commit_set.specs.Paths.{Path, from-constraint, from-committed, through}
 use Rattle.commit_set.proofs.Members.{root-shifted, term-shifted}
-
-and-second : (a b : Bool) → (a && b) ≡ true → b ≡ true
-and-second true b e = e
-and-second false b e = cc
-
-pub valid-at : (n : ℕ) → validNumber n ≡ true → Valid (shiftAt n)
-valid-at n e = ltb-true (shiftAt n .amount) (widthOf (shiftAt n .variant)) (and-second (ltb n 512) (valid (shiftAt n)) e)
 
 pub fold-valid : (i o s i′ o′ : Shift) → Valid i → Valid o → Valid s → pushValid i o s 2 ≡ Seq i′ o′ → Valid i′ × Valid o′
 fold-valid i o s i′ o′ hi ho hs e = let r = subst (PushRight i o s) e (push-right i o s hi ho hs 2) in (r .0, r .1)

@@ -14,11 +14,11 @@ ghost use Rattle.commit_set.specs.Answer.{slotsFault, decisionFault, Sol
 use legraph::Walk;
 use lower::Sizes;
 
-pub mod grounds;
-pub mod numbers;
-pub mod runs;
-pub mod search;
-pub mod steps;
+mod grounds;
+mod numbers;
+mod runs;
+mod search;
+mod steps;
 
 pub const SLOTS: u8 = 7;
 

@@ -1,7 +1,6 @@
 // Runs of shifts, and contexts. Follows frontend/src/pass/fusion/commit_set.rs.
 ghost use mathlib.Core.Path.{_≡_};
 ghost use Prim.Native.Nat.{_<_, max};
-ghost use lib.Dec.{leb};
 ghost use Rattle.commit_set.specs.Runs.{bitOf, runOf, grown, absorbs, absorbed, joinRun, joinRuns, noRuns, plus, fresh, under, join};
 use crate::CommitSetCx;
 use crate::Run;
@@ -181,14 +180,6 @@ impl ShiftSummary {
             second,
             len: larger(self.len, other.len),
         }
-    }
-
-    // Whether `shift` goes with this path within `slots` shifts for each term.
-    pub fn composable(self, shift: Shift, slots: u8) -> bool
-        ensures { λ r. ⌜ r ≡ leb (plus self shift .len) slots ⌝ }
-    {
-        let sum = self.with(shift);
-        sum.len <= slots
     }
 }
 

@@ -12,6 +12,7 @@ ghost use Rattle.commit_set.specs.Decision.{contextOf, shiftsOf, decide}
 ghost use Rattle.commit_set.specs.Numbers.{stateAt};
 use crate::CommitSetCx;
 use crate::Decision;
+use operand::LinDefId;
 use shift::Shift;
 use shift::ShiftVariant;
 
@@ -32,10 +33,11 @@ fn shift_at(n: u64) -> Shift
     }
 }
 
-fn decision_at(decisions: &[u64], e: usize) -> u64
-    ensures { λ r. ⌜ r ≡ getD (now (decisions .entry)) e 0 ⌝ }
+fn decision_at(decisions: &[u64], d: LinDefId) -> u64
+    ensures { λ r. ⌜ r ≡ getD (now (decisions .entry)) (d .0) 0 ⌝ }
 {
-    if e < decisions.len() { decisions[e] } else { 0 }
+    let i = d.0 as usize;
+    if i < decisions.len() { decisions[i] } else { 0 }
 }
 
 // The context of a use, its user being decided.
@@ -43,11 +45,12 @@ fn context_of(u: u64, decisions: &[u64]) -> CommitSetCx
     ensures { λ r. ⌜ r ≡ contextOf (stateAt (now (decisions .entry))) (useAt u) ⌝ }
 {
     let shift = shift_at(u % 65536);
-    let user = (u / 65536 % 65536) as usize;
+    let user = u / 65536 % 65536;
     if user == 0 {
         return CommitSetCx::new(shift);
     }
-    crate::numbers::context_below(decision_at(decisions, user - 1), shift)
+    let d = LinDefId((user - 1) as u16);
+    crate::numbers::context_below(decision_at(decisions, d), shift)
 }
 
 fn more_than_one(many: bool, len: u8) -> bool

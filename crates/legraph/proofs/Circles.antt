@@ -1,24 +1,23 @@
 -- A definition leads to itself by the table just where one reaches itself in the system, so the walk meets a circle just where there is one.
 -- Assumes nothing.
 use mathlib.Core.Path.{_≡_, refl, sym, ap, _∙_, subst}
-use Prim.Native.Nat.{ℕ, zero, suc, _+_, _≤_, _<_}
+use Prim.Native.Nat.{ℕ, zero, suc, _<_}
 use mathlib.Core.List.{List, [], _∷_, List·Memᴰ, List·Memᴰ·head, List·Memᴰ·tail}
 use mathlib.Core.Bool.{Bool, true, false, _||_}
 use mathlib.Core.Option.{Option, none, some}
 use native.Mathlib.Omega.{arith}
-use lib.ListN.{length, getD, replicate}
+use lib.ListN.{length, getD}
 use lib.Dec.{eqb}
 use borrow.Author.Tests.{eqb-true}
 use Rattle.operand.specs.Numbers.{Term, Operand}
 use Rattle.lower.specs.Lists.{All, someOf}
-use Rattle.lower.specs.Model.{System, destinations, definitionOf}
+use Rattle.lower.specs.Model.{System, destinations}
 use Rattle.lower.specs.Accepted.{Once, Reaches, names, through, NoCircle}
 use Rattle.legraph.specs.Uses.{dstOf, rhsOf}
 use Rattle.legraph.specs.Uses.{names as namesOf}
-use Rattle.legraph.specs.Walked.{Walked, walkOf, orderOf}
 use Rattle.legraph.specs.Orders.{Link, Leads, directly, onward, Circle, Posted}
-use Rattle.legraph.proofs.Walking.{Right, walk-right, no-circle}
-use Rattle.legraph.proofs.Listing.{tableOf, Defined, found-at, found-by, found-none}
+use Rattle.legraph.proofs.Walking.{no-circle}
+use Rattle.legraph.proofs.Listing.{tableOf, found-at, found-by, found-none}
 
 some-one : {A : Type 0} {x y : A} → some x ≡ some y → x ≡ y
 some-one {x = x} e = ap (from x) e

@@ -1,10 +1,10 @@
 -- Laws of the table of definitions and of the lists of uses, one step at a time. Assumes nothing.
-use mathlib.Core.Path.{_≡_, refl, sym, ap, _∙_}
-use Prim.Native.Nat.{ℕ, zero, suc, _+_, _-_, _*_, _≤_, _<_}
+use mathlib.Core.Path.{_≡_, refl, ap, _∙_}
+use Prim.Native.Nat.{ℕ, suc, _+_, _-_, _*_, _≤_, _<_}
 use native.Mathlib.Omega.{arith}
-use mathlib.Core.Bool.{Bool, true, false, cond}
+use mathlib.Core.Bool.{Bool, true, false}
 use mathlib.Core.List.{List, [], _∷_, _++_, map}
-use lib.ListN.{length, getD, set, take, drop, length-set}
+use lib.ListN.{length, getD, set, take, drop}
 use borrow.Author.Tests.{lt-ltb, le-ltb}
 use Rattle.operand.specs.Numbers.{Operand, termOf, operandOf}
 use Rattle.lower.specs.declared.Sizes.{Sizes}

@@ -1,3 +1,4 @@
+pub mod Cases
 pub mod Laws
 pub mod Walks
 pub mod Walking
@@ -5,3 +6,4 @@ pub mod Numbering
 pub mod Listing
 pub mod Circles
 pub mod Theorem
+pub mod Samples

@@ -9,23 +9,17 @@ use native.Mathlib.Omega.{arith}
 use lib.ListN.{length, getD, set, replicate, length-set, length-replicate, length-append}
 use lib.Seq.{getD-set-same, getD-set-other}
 use lib.Dec.{eqb}
-use borrow.Author.Tests.{eqb-true, eqb-false, eq-eqb, ne-eqb}
+use borrow.Author.Tests.{eq-eqb, ne-eqb}
 use Rattle.operand.specs.Numbers.{Term, Operand}
-use Rattle.lower.specs.Lists.{All, done, more, joined}
+use Rattle.lower.specs.Lists.{All, more, joined}
 use Rattle.lower.specs.Model.{Definition, System, rowOperands, definitionOperands, termsOf, destinations, definitionOf}
 use Rattle.lower.specs.Accepted.{Once}
 use Rattle.lower.proofs.Laws.{all-left, all-right}
 use Rattle.legraph.specs.Uses.{User, constraint, definition, Use, useBy, usesIn, usesFrom, usesOf, dstOf, rhsOf}
-use Rattle.legraph.specs.Tables.{numbered, useNumber, userAt, useAt, nextAt, Graph, graph, push, noteAt, note, noteTerms, userNumber, noteFrom, noteAll, listed, Linked}
+use Rattle.legraph.specs.Tables.{numbered, useNumber, userAt, useAt, nextAt, Graph, graph, noteAt, note, noteTerms, noteFrom, noteAll, listed, Linked}
+use Rattle.legraph.proofs.Cases.{same-or-not, zero-at}
 use Rattle.legraph.proofs.Numbering.{table-right, number-there, number-none, number-once}
 use Rattle.legraph.proofs.Laws.{push-room, note-opaque, note-defined}
-
-by-test : {X : Type 0} (t : Bool) → (t ≡ true → X) → (t ≡ false → X) → X
-by-test true p q = p refl
-by-test false p q = q refl
-
-same-or-not : {X : Type 0} (m n : ℕ) → (m ≡ n → X) → ((m ≡ n → ⊥) → X) → X
-same-or-not m n p q = by-test (eqb m n) (λ e. p (eqb-true m n e)) (λ e. q (eqb-false m n e))
 
 -- a use there and back
 pub next-back : (user shift next : ℕ) → shift < 65536 → user < 65536 → nextAt (useNumber user shift next) ≡ next
@@ -234,11 +228,6 @@ append-nil : (l : List Use) → l ++ [] ≡ l
 append-nil [] = refl
 append-nil (x ∷ l) = ap (λ (r : List Use). x ∷ r) (append-nil l)
 
-nothing-at : (m d : ℕ) → _≡_ {A = ℕ} (getD (replicate m 0) d 0) 0
-nothing-at zero d = refl
-nothing-at (suc m) zero = refl
-nothing-at (suc m) (suc d) = nothing-at m d
-
 listed-none : (f : ℕ) (us : List ℕ) (h : ℕ) → h ≡ 0 → listed f us h ≡ []
 unfolding listed
 listed-none zero us h e = refl
@@ -287,8 +276,8 @@ module _ (p : System) (m : ℕ) (once : Once (p .linears)) (small : All (λ (d :
       let parts : All (λ (t : Term). t .inner < 65536) (rs ++ ls) = subst (All (λ (t : Term). t .inner < 65536)) all shifts in
       let start : Holds n (λ d. []) g = record {
         linked = record { inside = omega arith; falls = λ i h. absurd (omega arith) };
-        heads = λ d. omega (arith, nothing-at k d);
-        lists = λ d l f h. listed-none f us (getD (replicate k 0) d 0) (nothing-at k d);
+        heads = λ d. omega (arith, zero-at k d);
+        lists = λ d l f h. listed-none f us (getD (replicate k 0) d 0) (zero-at k d);
       } in
       let a = note-definitions n (dstOf p) (tableOf m p) 0 (p .linears) (λ d. []) g finds (omega arith) (all-right (λ (t : Term). t .inner < 65536) rs ls parts) (omega (arith, long, room)) start in
       let g′ : Graph = noteFrom (tableOf m p) true 0 (definitionOperands p) g in

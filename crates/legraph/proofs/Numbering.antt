@@ -1,8 +1,8 @@
 -- The table of definitions has at each wire the number of its definition.
 -- Assumes nothing.
-use mathlib.Core.Path.{_≡_, refl, sym, ap, _∙_, subst}
+use mathlib.Core.Path.{_≡_, refl, sym, ap, _∙_}
 use Prim.Native.Nat.{ℕ, zero, suc, _+_, _-_, _≤_, _<_}
-use mathlib.Core.List.{List, [], _∷_, map}
+use mathlib.Core.List.{List, [], _∷_}
 use mathlib.Core.Bool.{Bool, true, false, cond, _||_}
 use mathlib.Core.Option.{none, some}
 use native.Mathlib.Omega.{arith}
@@ -10,29 +10,21 @@ use lib.ListN.{length, getD, set, replicate, length-set, length-replicate}
 use lib.Seq.{getD-set-same, getD-set-other}
 use lib.Dec.{eqb}
 use borrow.Author.Tests.{eqb-true, eqb-false, eq-eqb, ne-eqb}
-use Rattle.operand.specs.Numbers.{Operand}
-use Rattle.lower.specs.Lists.{All, done, more, someOf}
+use Rattle.lower.specs.Lists.{All, more}
 use Rattle.lower.specs.Model.{Definition, destinations, defines, definitionOf}
 use Rattle.lower.specs.Accepted.{Once}
 use Rattle.legraph.specs.Uses.{noDefinition}
 use Rattle.legraph.specs.Tables.{numbered, numberIn}
-
-clash : {A : Type 0} {b : Bool} → b ≡ true → b ≡ false → A
-clash e h = let z : _≡_ {A = ℕ} 0 1 = cc in absurd (omega arith)
+use Rattle.legraph.proofs.Cases.{clash, zero-at}
 
 pub numbered-length : (k : ℕ) (ds l : List ℕ) → length (numbered k ds l) ≡ length l
 unfolding numbered
 numbered-length k [] l = refl
 numbered-length k (d ∷ ds) l = length-set (numbered (suc k) ds l) d (suc k) ∙ numbered-length (suc k) ds l
 
-no-number : (m w : ℕ) → _≡_ {A = ℕ} (getD (replicate m 0) w 0) 0
-no-number zero w = refl
-no-number (suc m) zero = refl
-no-number (suc m) (suc w) = no-number m w
-
 pub table-right : (m k : ℕ) (ds : List ℕ) → All (λ (d : ℕ). d < m) ds → (w : ℕ) → getD (numbered k ds (replicate m 0)) w 0 ≡ numberIn k ds w
 unfolding numbered numberIn
-table-right m k [] a w = no-number m w
+table-right m k [] a w = zero-at m w
 table-right m k (d ∷ ds) (more h a) w = go (eqb w d) refl (table-right m (suc k) ds a w)
   where
     go : (b : Bool) → eqb w d ≡ b → getD (numbered (suc k) ds (replicate m 0)) w 0 ≡ numberIn (suc k) ds w → getD (set (numbered (suc k) ds (replicate m 0)) d (suc k)) w 0 ≡ cond b (suc k) (numberIn (suc k) ds w)

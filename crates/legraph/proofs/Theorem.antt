@@ -1,19 +1,19 @@
 -- The walk over a system in stores: a circle is met just where a definition reaches itself, and else the order has every definition once,
 -- before all that it names.
 -- Assumes nothing.
-use mathlib.Core.Path.{_≡_, refl, sym, ap, _∙_, subst}
-use Prim.Native.Nat.{ℕ, zero, suc, _+_, _≤_, _<_}
+use mathlib.Core.Path.{_≡_, sym, ap, _∙_, subst}
+use Prim.Native.Nat.{ℕ, _≤_, _<_}
 use mathlib.Core.List.{List, List·Memᴰ}
 use mathlib.Core.Bool.{true, false}
 use native.Mathlib.Omega.{arith}
 use lib.ListN.{length, getD, take, replicate}
 use lib.Seq.{length-take-le, getD-take}
-use Rattle.operand.specs.Numbers.{Operand, operandOf}
+use Rattle.operand.specs.Numbers.{operandOf}
 use Rattle.lower.specs.declared.Sizes.{Sizes}
 use Rattle.lower.specs.Lists.{All}
 use Rattle.lower.specs.Model.{Definition, System, destinations}
 use Rattle.lower.specs.Accepted.{Once, Reaches, NoCircle}
-use Rattle.lower.specs.Stores.{Stores, systemOf, Stands, Placed}
+use Rattle.lower.specs.Stores.{Stores, systemOf, Placed}
 use Rattle.lower.specs.Faults.{memoryFault}
 use Rattle.lower.proofs.Firsts.{part-all}
 use Rattle.lower.proofs.Laws.{definition-at, destinations-model, linears-length}
@@ -22,7 +22,7 @@ use Rattle.legraph.specs.Uses.{noDefinition, dstOf, rhsOf}
 use Rattle.legraph.specs.Tables.{numbered}
 use Rattle.legraph.specs.Walked.{Walked, walkOf, orderOf, rhsIn, There, Sound}
 use Rattle.legraph.specs.Orders.{Posted}
-use Rattle.legraph.proofs.Walking.{Right, walk-right}
+use Rattle.legraph.proofs.Walking.{walk-right}
 use Rattle.legraph.proofs.Listing.{tableOf, found-at}
 use Rattle.legraph.proofs.Circles.{circle-reaches, order-none}
 

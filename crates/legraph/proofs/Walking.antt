@@ -3,7 +3,7 @@
 use mathlib.Core.Path.{_≡_, refl, sym, ap, _∙_, subst}
 use Prim.Native.Nat.{ℕ, zero, suc, _+_, _-_, _≤_, _<_}
 use mathlib.Core.List.{List, [], _∷_, List·Memᴰ, List·Memᴰ·head, List·Memᴰ·tail, List·Memᴰ·not-nil}
-use mathlib.Core.Bool.{Bool, true, false}
+use mathlib.Core.Bool.{true, false}
 use mathlib.Core.Logic.{_⊎_, inl, inr, ⊎-elim}
 use native.Mathlib.Omega.{arith}
 use lib.ListN.{length, getD, set, drop, length-set, replicate, length-replicate}
@@ -11,19 +11,10 @@ use lib.Seq.{getD-set-same, getD-set-other, drop-set-lt, drop-cons, drop-length}
 use lib.Dec.{eqb}
 use borrow.Author.Tests.{eqb-true, eqb-false}
 use Rattle.operand.specs.Numbers.{Term, Operand}
-use Rattle.legraph.specs.Walked.{Walked, circled, enter, over, opened, closed, visit, walkFrom, begun, walkOf, unmarked, orderOf}
+use Rattle.legraph.specs.Walked.{Walked, enter, over, opened, visit, walkFrom, begun, walkOf, unmarked, orderOf}
 use Rattle.legraph.specs.Orders.{Link, Leads, directly, onward, Circle, Posted, done, more}
+use Rattle.legraph.proofs.Cases.{by-test, same-or-not, clash, zero-at}
 use Rattle.legraph.proofs.Walks.{fewer, remarked, enter-none, enter-circle, enter-new, enter-open, enter-done, closed-circle, closed-done}
-
-by-test : {X : Type 0} (t : Bool) → (t ≡ true → X) → (t ≡ false → X) → X
-by-test true p q = p refl
-by-test false p q = q refl
-
-same-or-not : {X : Type 0} (m n : ℕ) → (m ≡ n → X) → ((m ≡ n → ⊥) → X) → X
-same-or-not m n p q = by-test (eqb m n) (λ e. p (eqb-true m n e)) (λ e. q (eqb-false m n e))
-
-clash : {A : Type 0} {b : Bool} → b ≡ true → b ≡ false → A
-clash e h = let z : _≡_ {A = ℕ} 0 1 = cc in absurd (omega arith)
 
 abbrev mark : Walked → ℕ → ℕ
 mark w e = getD (w .marks) e 0
@@ -281,11 +272,6 @@ unfolding unmarked
 all-unmarked zero = refl
 all-unmarked (suc m) = ap suc (all-unmarked m)
 
-no-mark : (m e : ℕ) → _≡_ {A = ℕ} (getD (replicate m 0) e 0) 0
-no-mark zero e = refl
-no-mark (suc m) zero = refl
-no-mark (suc m) (suc e) = no-mark m e
-
 pub walk-right : (rhs : ℕ → Operand) (table : List ℕ) (n m : ℕ) (order : List ℕ) → n ≤ m → m ≤ length order → ((x d : ℕ) → getD table x 0 ≡ suc d → d < n)
     → Right rhs table n (walkOf rhs table n (replicate m 0) order)
 unfolding walkOf
@@ -294,17 +280,17 @@ walk-right rhs table n m order nm mo named =
     let long : length marks ≡ m = length-replicate m 0 in
     let none : drop (length order) order ≡ [] = drop-length order in
     let fine : Fine rhs table n (begun marks order) = record {
-      small = λ e. omega (arith, no-mark m e);
+      small = λ e. omega (arith, zero-at m e);
       room = omega (arith, all-unmarked m, mo);
       fits = omega arith;
       posted = subst (Posted rhs table) (sym none) done;
-      stands = λ e h. absurd (omega (arith, h, no-mark m e));
+      stands = λ e h. absurd (omega (arith, h, zero-at m e));
       marked = λ e h. absurd (List·Memᴰ·not-nil (subst (List·Memᴰ e) none h));
       below = λ e h. absurd (List·Memᴰ·not-nil (subst (List·Memᴰ e) none h));
     } in
     let r = walks rhs table n m (length marks) nm named n 0 (begun marks order) (omega arith)
     (record { deep = omega (arith, all-unmarked m, long); many = long; right = λ o. fine; known = λ o. clash o refl })
-    (λ o e h. omega (arith, h, no-mark m e)) in
+    (λ o e h. omega (arith, h, zero-at m e)) in
     record {
       circle = r .found;
       posted = λ o. r .did .fine o .posted;

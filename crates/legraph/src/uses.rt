@@ -9,7 +9,7 @@ ghost use Rattle.lower.specs.Lists.{All};
 ghost use Rattle.lower.specs.Accepted.{MAX_TERMS};
 ghost use Rattle.lower.specs.Stores.{stores, systemOf, Stands};
 ghost use Rattle.lower.specs.Faults.{memoryFault};
-ghost use Rattle.legraph.specs.Tables.{toldNode, useNumber, graph, push, note, userNumber, noteTerms, noteFrom, noteAll};
+ghost use Rattle.legraph.specs.Tables.{useNumber, graph, push, note, userNumber, noteTerms, noteFrom, noteAll};
 use crate::Node;
 use lower::Sizes;
 use operand::LinDefId;

@@ -4,7 +4,7 @@ use mathlib.Core.List.{[], _∷_, List·Memᴰ·head}
 use Prim.Native.Nat.{ℕ}
 use Rattle.shift.specs.Shifts.{shifted}
 use Rattle.operand.specs.Numbers.{Term}
-use Rattle.lower.specs.Model.{System, rowOperands, definitionOperands, usesOf}
+use Rattle.lower.specs.Model.{System, rowOperands, definitionOperands}
 use Rattle.lower.specs.Values.{value, moved, termValue, wordOf, RowHolds, ZeroHolds}
 use Rattle.lower.specs.Accepted.{Reaches, names, through}
 use Rattle.lower.specs.Faults.{definitionFault}
@@ -23,15 +23,6 @@ sample =
       zeros = ((term 2 0 ∷ term 2 0 ∷ term 1 4 ∷ []) ∷ []) ∷ [];
       linears = record { dst = 1; rhs = term 0 72 ∷ [] } ∷ record { dst = 2; rhs = term 1 0 ∷ [] } ∷ [];
     }
-
--- equal terms count each, and uses in definitions count
-pub sample-uses : usesOf sample 2 ≡ term 2 0 ∷ term 2 0 ∷ []
-unfolding usesOf rowOperands definitionOperands
-sample-uses = refl
-
-pub sample-uses-1 : usesOf sample 1 ≡ term 1 4 ∷ term 1 0 ∷ []
-unfolding usesOf rowOperands definitionOperands
-sample-uses-1 = refl
 
 -- 0x1234 >> 8 is 0x12, and << 4 it is 0x120; a term twice is nothing
 pub sample-value : value (wordOf (4660 ∷ 18 ∷ 18 ∷ [])) (term 2 0 ∷ term 2 0 ∷ term 1 4 ∷ []) ≡ 288

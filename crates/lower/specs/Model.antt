@@ -6,7 +6,6 @@
 --   operandsOf p     all operands in the writer's order; termsOf p, all terms
 --   defines ds w     some definition has the wire w as its destination
 --   definitionOf     the right side that defines a wire
---   usesOf p w       the terms that name w: where w is defined, its uses
 --
 -- Assumes nothing.
 use Prim.Native.Nat.{ℕ}
@@ -15,7 +14,7 @@ use mathlib.Core.List.{List, [], _∷_, _++_, map}
 use mathlib.Core.Option.{Option, none, some}
 use lib.Dec.{eqb}
 use Rattle.operand.specs.Numbers.{Term, Operand}
-use Rattle.lower.specs.Lists.{someOf, keep, joined}
+use Rattle.lower.specs.Lists.{someOf, joined}
 
 -- "2 And (a, b, c); 3 Imul (a, b, hi, lo); 4 Bmul (a_lo, a_hi, b_lo, b_hi, c_lo, c_hi); 5 Zero (val)"
 abbrev pub Row : Type 0
@@ -56,7 +55,3 @@ defines ds w = someOf (eqb w) (destinations ds)
 abbrev pub definitionOf : List Definition → ℕ → Option Operand
 definitionOf [] w = none
 definitionOf (d ∷ ds) w = cond (eqb w (d .dst)) (some (d .rhs)) (definitionOf ds w)
-
--- "A use is one term naming a defined wire, in a definition or in another constraint; equal terms count each"
-unfoldable pub usesOf : System → ℕ → List Term
-usesOf p w = keep (λ (t : Term). eqb (t .wire) w) (termsOf p)

@@ -6,9 +6,8 @@ pub mod NeverOver
 pub mod Counting
 pub mod Samples
 pub mod Writing
-pub mod Turns
-pub mod Passing
+pub mod Spells
 pub mod Unique
 pub mod Results
 pub mod Handles
-pub mod Through
+pub mod Spelled

@@ -7,7 +7,7 @@ use mathlib.Core.List.{List, _++_, List·Memᴰ}
 use mathlib.Core.Option.{Option, none, some}
 use lib.ListN.{length}
 use Rattle.shift.specs.Shifts.{shiftAt}
-use Rattle.shift.proofs.Numbers.{number-back, number-valid}
+use Rattle.shift.proofs.Numbers.{number-back, number-valid, valid-at}
 use Rattle.operand.specs.declared.PushInner.{PushInner}
 use Rattle.operand.specs.declared.PushInner.the-variants.{Seq, Zero, OverBudget}
 use Rattle.operand.specs.Numbers.{Term, Operand}
@@ -22,7 +22,7 @@ use Rattle.commit_set.specs.Decision.{Solves}
 use Rattle.commit_set.specs.Paths.{committed}
 use Rattle.commit_set.proofs.Members.{root-shifted, term-shifted}
 use Rattle.commit_set.proofs.Budget.{Held, held-root, held-committed, held-through, fold-within}
-use Rattle.commit_set.proofs.Valids.{valid-at, fold-valid}
+use Rattle.commit_set.proofs.Valids.{fold-valid}
 use Rattle.patch.specs.Expansion.{under, folded, descend, DescendFits, BelowFits, expandBy, expand, FitsBy, Fits}
 use Rattle.patch.specs.Patch.{commitSet, inlined, depth, commits, rebuilt, rowRebuilds, rhssOf, rebuilds, NeverOver}
 use Rattle.patch.proofs.Parts.{all-keep, all-each, all-mapped, all-gather, all-members}

@@ -118,3 +118,23 @@ report-computed = refl
 -- "Whole output: `ok 0 0 0 1 1 0 1 0 1`"
 pub report-counts : (st : ℕ → Decision) → Solves 2 report st → countsOf report (commitSet report st) ≡ 0 ∷ 0 ∷ 0 ∷ 1 ∷ 1 ∷ 0 ∷ 1 ∷ 0 ∷ 1 ∷ []
 report-counts st s = ap (countsOf report) (report-set st s) ∙ report-computed
+
+-- ---- Zero of (0, sll 40), 0 = 1, 1 = (2, sll 40), 2 = 3: nothing is written, and 0 and 1 are met all the same
+
+abbrev pub dry : System
+dry = record {
+  wires = 4;
+  ands = [];
+  imuls = [];
+  bmuls = [];
+  zeros = ((term 0 40 0 ∷ []) ∷ []) ∷ [];
+  linears = record { dst = 0; rhs = term 1 0 0 ∷ [] } ∷ record { dst = 1; rhs = term 2 40 0 ∷ [] } ∷ record { dst = 2; rhs = term 3 0 0 ∷ [] } ∷ [];
+}
+
+pub dry-written : written dry (λ (w : ℕ). false) ≡ []
+unfolding written rebuilds rowRebuilds rebuilt commits expandOperand expandTerm inlined depth pushValid composeValid degenerates chains
+dry-written = refl
+
+pub dry-met : allMet dry (λ (w : ℕ). false) ≡ 0 ∷ 1 ∷ []
+unfolding allMet rebuilds rowRebuilds rebuilt commits metOperand metTerm inlined depth pushValid composeValid degenerates chains
+dry-met = refl

@@ -3,5 +3,5 @@ pub mod Expansion
 pub mod Patch
 pub mod Counts
 pub mod Steps
-pub mod Dry
+pub mod Spelling
 pub mod Handles

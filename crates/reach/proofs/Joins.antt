@@ -10,7 +10,7 @@ use Rattle.word.proofs.Probes.{zero-through}
 use Rattle.shift.specs.declared.Shift.{Shift}
 use Rattle.shift.specs.Shifts.{Valid, shiftAt, applyOf}
 use Rattle.shift.proofs.Linear.{moves, shifted-lt}
-use Rattle.shift.proofs.Numbers.{number-back}
+use Rattle.shift.proofs.Numbers.{number-back, valid-at}
 use Rattle.operand.specs.declared.PushInner.the-variants.{Seq, Zero}
 use Rattle.operand.specs.Numbers.{Term}
 use Rattle.alive.specs.Masks.{ones, pulled}
@@ -19,7 +19,6 @@ use Rattle.alive.proofs.Pulls.{pulled-lt, pulled-right}
 use Rattle.alive.proofs.Living.{fold-says, seq-alive, zero-clears}
 use Rattle.lower.specs.Lists.{All, done, more}
 use Rattle.lower.specs.Accepted.{ShiftsOf}
-use Rattle.commit_set.proofs.Valids.{valid-at}
 use Rattle.patch.specs.Expansion.{under, folded}
 use Rattle.reach.specs.Alive.{orAll, carried}
 

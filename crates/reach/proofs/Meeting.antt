@@ -23,7 +23,7 @@ use Rattle.lower.proofs.Laws.{all-left, all-right, all-both}
 use Rattle.lower.proofs.Alls.{all-join, all-unjoin, all-unmap}
 use Rattle.lower.proofs.Accepts.{defines-none}
 use Rattle.commit_set.proofs.Members.{all-at, all-roots, all-terms}
-use Rattle.commit_set.proofs.Valids.{valid-at}
+use Rattle.shift.proofs.Numbers.{valid-at}
 use Rattle.patch.specs.Expansion.{under, folded, descend, DescendFits, metBy, met, FitsBy, Fits}
 use Rattle.patch.specs.Patch.{inlined, depth, metTerm, metOperand, commits, rebuilt, rowRebuilds, rhssOf, rebuilds, allMet, NeverOver}
 use Rattle.patch.proofs.Parts.{Which, is-true, is-false, which, lost, all-each, all-members, all-keep, all-unkept, all-mapped, all-gather}

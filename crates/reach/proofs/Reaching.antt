@@ -27,7 +27,7 @@ use Rattle.lower.specs.Accepted.{ShiftsOf, Shifted, Single, Once, NoCircle}
 use Rattle.lower.proofs.Alls.{all-join}
 use Rattle.lower.proofs.Somes.{none-all, all-none}
 use Rattle.commit_set.proofs.Members.{all-at}
-use Rattle.commit_set.proofs.Valids.{valid-at}
+use Rattle.shift.proofs.Numbers.{valid-at}
 use Rattle.patch.specs.Expansion.{under, folded, descend, DescendFits, Fits, Within}
 use Rattle.patch.specs.Patch.{inlined, depth, metTerm, metOperand, rebuilds, allMet, NeverOver}
 use Rattle.patch.proofs.Parts.{Which, is-true, is-false, which, lost, clash, all-each, all-members, all-ungather}

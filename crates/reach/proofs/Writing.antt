@@ -19,7 +19,7 @@ use Rattle.lower.specs.Model.{Definition, System, definitionOf, definitionOpera
 use Rattle.lower.specs.Accepted.{ShiftsOf, Shifted, NoCircle}
 use Rattle.lower.proofs.Alls.{all-unjoin, all-unmap}
 use Rattle.commit_set.proofs.Members.{all-terms}
-use Rattle.commit_set.proofs.Valids.{valid-at}
+use Rattle.shift.proofs.Numbers.{valid-at}
 use Rattle.patch.specs.Lists.{gather}
 use Rattle.patch.specs.Expansion.{under, folded, descend, DescendFits, below, BelowFits, expandBy, expand, FitsBy, Fits, Within}
 use Rattle.patch.specs.Patch.{inlined, depth, expandTerm}

@@ -1,9 +1,9 @@
 // Shifts that are known to be valid. Follows core/src/constraint_system/shift.rs.
 ghost use mathlib.Core.Path.{_≡_};
-ghost use mathlib.Core.Bool.{cond};
+ghost use mathlib.Core.Bool.{true, cond};
 ghost use Prim.Native.Nat.{_+_, _*_, _<_, _≤_};
 ghost use lib.Dec.{leb};
-ghost use Rattle.shift.specs.Shifts.{variantNumber, widthOf, Valid, shifted, applyOf, numberOf};
+ghost use Rattle.shift.specs.Shifts.{variantNumber, widthOf, Valid, shifted, applyOf, numberOf, validNumber, shiftAt};
 ghost use Rattle.shift.specs.Compose.{turned, pastWidth, chainedOf, firstOf, degenerates, chains, chainOf, makesOf, composeValid};
 ghost use Rattle.shift.specs.declared.Makes.{Makes};
 ghost use Rattle.shift.specs.declared.Makes.the-variants.{Neither};
@@ -44,6 +44,17 @@ pub fn index(s: Shift) -> u64
     let v = s.variant;
     let n = s.amount;
     64 * (v.number() as u64) + (n as u64)
+}
+
+// The shift of a number that is known to be one's.
+pub fn from_index(index: u64) -> Shift
+    requires { ⌜ validNumber index ≡ true ⌝ }
+    ensures { λ r. ⌜ (r ≡ shiftAt index) × Valid r ⌝ }
+{
+    Shift {
+        variant: ShiftVariant::from_u8((index / 64) as u8),
+        amount: (index % 64) as u8,
+    }
 }
 
 // A rotation by a whole turn is the identity, spelled one way.

@@ -6,3 +6,4 @@ pub mod Undo
 pub mod Listed
 pub mod Theorem
 pub mod Order
+pub mod Adds

@@ -9,7 +9,7 @@ use borrow.Author.Tests.{eqb-true}
 use Rattle.shift.specs.declared.Shift.{Shift}
 use Rattle.shift.specs.Shifts.{Valid, validNumber, numberOf, shiftAt, applyOf}
 use Rattle.shift.proofs.Linear.{shifted-lt, xor-shifted, zero-shifted, still}
-use Rattle.shift.proofs.Numbers.{number-back, number-valid}
+use Rattle.shift.proofs.Numbers.{number-back, number-valid, valid-at}
 use Rattle.operand.specs.declared.PushInner.the-variants.{Seq, Zero}
 use Rattle.operand.specs.Push.{PushRight}
 use Rattle.operand.specs.Numbers.{Term, Operand}
@@ -17,7 +17,6 @@ use Rattle.operand.proofs.Pushes.{push-right}
 use Rattle.lower.specs.Lists.{All, done, more}
 use Rattle.lower.specs.Values.{moved, termValue, value}
 use Rattle.lower.specs.Accepted.{ShiftsOf, isIdentity}
-use Rattle.commit_set.proofs.Valids.{valid-at}
 use Rattle.patch.specs.Expansion.{folded}
 use Rattle.undo.specs.FillBack.{IsWord}
 use Rattle.undo.proofs.Xor.{xor-assoc}

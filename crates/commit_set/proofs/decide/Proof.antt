@@ -1,5 +1,5 @@
 -- The checks in their order, then the walk and the decisions. Assumes nothing.
-use mathlib.Core.Path.{_≡_, refl, sym, ap, _∙_}
+use mathlib.Core.Path.{refl, sym, _∙_}
 use native.Mathlib.Omega.{arith}
 use Rattle.lower.proofs.Checks.{memory-places, memory-wires}
 use Rattle.lower.specs.Stores.{Stores, stores}

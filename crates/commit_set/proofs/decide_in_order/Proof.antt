@@ -1,13 +1,12 @@
 -- The lists that are made are the system's uses, and the order takes each definition after all that name it. Assumes nothing.
-use mathlib.Core.Path.{_≡_, sym, ap, _∙_, subst}
+use mathlib.Core.Path.{sym, ap, _∙_, subst}
 use mathlib.Core.List.{List}
 use Prim.Native.Nat.{ℕ}
 use native.Mathlib.Omega.{arith}
-use lib.ListN.{length, replicate, length-replicate, length-drop}
+use lib.ListN.{replicate, length-replicate, length-drop}
 use Rattle.legraph.proofs.Theorem.{count, table-made}
-use Rattle.legraph.specs.Tables.{Graph, graph, noteAll}
+use Rattle.legraph.specs.Tables.{graph, noteAll}
 use Rattle.lower.specs.Stores.{Stores, stores, systemOf}
-use Rattle.lower.specs.Model.{System}
 use Rattle.commit_set.specs.Answer.{Solution}
 use Rattle.commit_set.proofs.Deciding.{ready-solution}
 use Rattle.commit_set.proofs.Preparing.{prepared}

@@ -1,11 +1,11 @@
 -- The walk answers 11 or gives an order, and the order solves the system. Assumes nothing.
-use mathlib.Core.Path.{_≡_, refl, sym, ap, _∙_}
+use mathlib.Core.Path.{refl}
 use Prim.Native.Nat.{ℕ}
 use native.Mathlib.Omega.{arith}
-use lib.ListN.{length, length-replicate}
+use lib.ListN.{length-replicate}
 use Rattle.lower.specs.Stores.{Stores, stores}
 use Rattle.commit_set.specs.Answer.{circular, short, decided}
-use Rattle.commit_set.proofs.Answers.{memory-none, once, table-there, walk-there, Outcome, outcome}
+use Rattle.commit_set.proofs.Answers.{memory-none, once, table-there, walk-there, outcome}
 use borrow.Author.Needs.{needs}
 use Rattle.commit_set.proofs.run_decide_commit_set.Statement.{statement}
 use Rattle.commit_set.proofs.run_decide_commit_set.Tie as tie

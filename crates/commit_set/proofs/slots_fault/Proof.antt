@@ -1,7 +1,5 @@
 -- 1, 2 and the others. Assumes nothing.
 use borrow.Author.Tests.{eq-eqb, ne-eqb}
-use mathlib.Core.Bool.{_||_}
-use borrow.Author.Needs.{needs}
 use Rattle.commit_set.proofs.slots_fault.Statement.{statement}
 use Rattle.commit_set.proofs.slots_fault.Tie as tie
 

@@ -1,5 +1,4 @@
 -- What the table has at the wire, and nothing past its end. Assumes nothing.
-use native.Mathlib.Omega.{arith}
 use mathlib.Core.Path.{sym}
 use Prim.Native.Nat.{ℕ}
 use lib.ListN.{List·getD-eq-default}

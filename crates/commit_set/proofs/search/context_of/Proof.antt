@@ -1,5 +1,5 @@
 -- The two kinds of users. Assumes nothing.
-use mathlib.Core.Path.{_≡_, _∙_}
+use mathlib.Core.Path.{_∙_}
 use Rattle.commit_set.specs.Numbers.{stateAt}
 use Rattle.commit_set.proofs.Searching.{in-constraint, in-definition}
 use borrow.Author.Needs.{needs}
@@ -15,8 +15,11 @@ new-requires c κs = search needs
 returns : tie.Need-returns
 returns c = let s = c .before .before .before .before in c .new .ensures ∙ rw (c .before .before .shift-at .ensures) (in-constraint (stateAt (s .args .decisions .now)) (s .args .u) (c .before .if1 .taken))
 
-sub-decision-at : tie.Need-sub-decision-at
-sub-decision-at c = search needs
+sub-t6 : tie.Need-sub-t6
+sub-t6 c = search needs
+
+cast-t8 : tie.Need-cast-t8
+cast-t8 c = search needs
 
 decision-at-requires : tie.Need-decision-at-requires
 decision-at-requires c κs = search needs
@@ -34,7 +37,8 @@ context-of-spec =
     shift-at-requires
     new-requires
     returns
-    sub-decision-at
+    sub-t6
+    cast-t8
     decision-at-requires
     context-below-requires
     returns-2)

@@ -1,21 +1,18 @@
 -- What is to be found is said of the uses and the terms that are left; a sum over the slots commits at once. Assumes nothing.
-use Prim.Native.Nat.{ℕ, _+_, _-_, _≤_}
+use Prim.Native.Nat.{_+_, _-_, _≤_}
 use mathlib.Core.Path.{_≡_, refl, sym, ap, _∙_, ap₂}
 use mathlib.Core.Logic.{⊎-elim}
-use mathlib.Core.List.{List, _∷_, map}
-use mathlib.Core.Bool.{Bool, true, false, _||_}
+use mathlib.Core.List.{map}
+use mathlib.Core.Bool.{false, _||_}
 use native.Mathlib.Omega.{arith}
 use lib.ListN.{length, getD, drop}
 use Rattle.legraph.proofs.Listing.{listed-step, listed-end}
 use Rattle.legraph.specs.Tables.{useAt, nextAt, listed}
-use Rattle.legraph.specs.Uses.{Use}
 use Rattle.operand.specs.Numbers.{termOf}
 use Rattle.shift.specs.Shifts.{shiftAt}
-use Rattle.shift.specs.declared.Shift.{Shift}
 use Rattle.commit_set.specs.Numbers.{stateAt}
 use Rattle.commit_set.specs.Decision.{contextOf, shiftsOf, someOver}
 use Rattle.commit_set.specs.Runs.{join, joinAll, plus}
-use Rattle.commit_set.specs.declared.ShiftSummary.{ShiftSummary}
 use Rattle.commit_set.specs.declared.CommitSetCx.{CommitSetCx}
 use Rattle.commit_set.proofs.Joining.{none-join, join-step}
 use Rattle.commit_set.proofs.Searching.{one-more, all-done, left-at}

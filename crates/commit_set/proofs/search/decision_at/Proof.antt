@@ -6,6 +6,9 @@ use borrow.Author.Needs.{needs}
 use Rattle.commit_set.proofs.search.decision_at.Statement.{statement}
 use Rattle.commit_set.proofs.search.decision_at.Tie as tie
 
+cast-i : tie.Need-cast-i
+cast-i c = search needs
+
 mul-result : tie.Need-mul-result
 mul-result c = search needs
 
@@ -16,7 +19,8 @@ returns : tie.Need-returns
 returns c = search needs
 
 returns-2 : tie.Need-returns-2
-returns-2 c = sym (List·getD-eq-default {A = ℕ} (c .before .args .decisions .now) 0 (c .if1 .left))
+returns-2 c = sym (List·getD-eq-default {A = ℕ} (c .before .before .args .decisions .now) 0 (c .if1 .left))
 
 pub decision-at-spec : {M : Type 1} → statement M
-decision-at-spec = tie.close (tie.spec mul-result shared-slice-read-result returns returns-2)
+decision-at-spec =
+    tie.close (tie.spec cast-i mul-result shared-slice-read-result returns returns-2)

@@ -1,6 +1,4 @@
 -- The two ways of the disjunction. Assumes nothing.
-use mathlib.Core.Bool.{_||_}
-use borrow.Author.Needs.{needs}
 use Rattle.commit_set.proofs.search.more_than_one.Statement.{statement}
 use Rattle.commit_set.proofs.search.more_than_one.Tie as tie
 

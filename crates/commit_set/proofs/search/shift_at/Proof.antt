@@ -3,7 +3,6 @@ use Prim.Native.Nat.{_%_}
 use Rattle.shift.specs.Shifts.{by}
 use Rattle.shift.specs.declared.ShiftVariant.{ShiftVariant}
 use mathlib.Core.Path.{ap}
-use Rattle.shift.specs.declared.Shift.{Shift}
 use Rattle.commit_set.proofs.Searching.{far-shift}
 use borrow.Author.Needs.{needs}
 use Rattle.commit_set.proofs.search.shift_at.Statement.{statement}

@@ -2,7 +2,6 @@
 use mathlib.Core.Path.{_≡_, refl, sym, ap, _∙_, subst}
 use mathlib.Core.List.{List}
 use Prim.Native.Nat.{ℕ, _+_, _-_}
-use native.Mathlib.Omega.{arith}
 use lib.ListN.{length, drop}
 use Rattle.commit_set.specs.Steps.{Held, held, decidedFrom, Ready}
 use Rattle.commit_set.proofs.Stepping.{from-step, from-end, ready-here, ready-next}

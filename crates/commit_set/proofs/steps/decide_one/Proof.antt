@@ -1,11 +1,10 @@
 -- The search is over the uses and terms that the definition names. Assumes nothing.
-use mathlib.Core.Path.{_≡_, sym, ap, _∙_, subst}
+use mathlib.Core.Path.{sym, ap, _∙_, subst}
 use Prim.Native.Nat.{ℕ}
 use native.Mathlib.Omega.{arith}
 use lib.ListN.{set}
-use Rattle.commit_set.specs.Steps.{Held, held, decideIn}
+use Rattle.commit_set.specs.Steps.{Held, held}
 use Rattle.commit_set.specs.Numbers.{decisionNumber, Packs}
-use Rattle.commit_set.specs.declared.Decision.{Decision}
 use Rattle.commit_set.proofs.Stepping.{decided-is, terms-length}
 use borrow.Author.Needs.{needs}
 use Rattle.commit_set.proofs.steps.decide_one.Statement.{statement}

@@ -2,13 +2,13 @@
 use mathlib.Core.Path.{_≡_, refl, sym, ap, _∙_, subst}
 use mathlib.Core.List.{map}
 use native.Mathlib.Omega.{arith}
-use lib.ListN.{length, getD, set, drop, length-set}
-use Rattle.operand.specs.Numbers.{termOf, operandOf}
-use Rattle.legraph.specs.Walked.{Walked, walked, over, opened, closed, unmarked, rhsIn, There, Sound, visit as visitOf, enter as enterOf}
+use lib.ListN.{length, getD, drop, length-set}
+use Rattle.operand.specs.Numbers.{termOf}
+use Rattle.legraph.specs.Walked.{Walked, walked, over, opened, unmarked, rhsIn, There, Sound, visit as visitOf, enter as enterOf}
 use Rattle.legraph.specs.Tables.{toldNode}
 use Rattle.legraph.proofs.Walks.{marked, fewer, enter-none, enter-circle, enter-new, enter-open, enter-done, over-step, over-end, ended, closed-unmarked, rhs-terms}
 use borrow.Author.Needs.{needs}
-use Prim.Native.Nat.{ℕ, _<_, suc, _+_, _-_, _≤_}
+use Prim.Native.Nat.{ℕ, _<_, _+_, _-_, _≤_}
 use borrow.Fn.Kinds.{In}
 use borrow.Fn.PlainCycle.{Measures, is, falls, and}
 use Rattle.legraph.proofs.post_order.enter.Reads as enter

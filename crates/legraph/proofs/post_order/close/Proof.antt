@@ -1,5 +1,4 @@
 -- The two ways of the definition. Assumes nothing.
-use mathlib.Core.Path.{_≡_, _∙_}
 use Rattle.legraph.specs.Walked.{walked}
 use Rattle.legraph.proofs.Walks.{closed-circle, closed-done}
 use borrow.Author.Needs.{needs}

@@ -1,5 +1,4 @@
 -- The two ways of the definition, room or none. Assumes nothing.
-use mathlib.Core.Path.{_∙_}
 use native.Mathlib.Omega.{arith}
 use Rattle.legraph.specs.Tables.{graph}
 use Rattle.legraph.proofs.Laws.{push-full, push-room}

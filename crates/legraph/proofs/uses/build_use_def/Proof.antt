@@ -1,12 +1,10 @@
 -- The five lists, the last one first, are all operands. Assumes nothing.
-use mathlib.Core.Path.{_≡_, sym, ap, _∙_}
-use Prim.Native.Nat.{ℕ}
+use mathlib.Core.Path.{_∙_}
 use native.Mathlib.Omega.{arith}
 use Rattle.lower.proofs.Checks.{checked, placed, memory-places}
 use Rattle.lower.specs.Stores.{Stores, stores}
-use Rattle.legraph.specs.Tables.{graph, noteFrom}
-use Rattle.legraph.proofs.Laws.{all-noted, AllThere, all-there}
-use borrow.Author.Needs.{needs}
+use Rattle.legraph.specs.Tables.{graph}
+use Rattle.legraph.proofs.Laws.{all-noted, all-there}
 use Rattle.legraph.proofs.uses.build_use_def.Statement.{statement}
 use Rattle.legraph.proofs.uses.build_use_def.Tie as tie
 

@@ -1,9 +1,9 @@
 -- The operands from the last one on are the whole. Assumes nothing.
-use mathlib.Core.Path.{_≡_, sym, ap, _∙_, refl}
+use mathlib.Core.Path.{_≡_, sym, _∙_, refl}
 use mathlib.Core.List.{map}
-use Prim.Native.Nat.{ℕ, _-_, _≤_}
+use Prim.Native.Nat.{_-_, _≤_}
 use native.Mathlib.Omega.{arith}
-use lib.ListN.{length, getD, take, drop}
+use lib.ListN.{length, take, drop}
 use Rattle.operand.specs.Numbers.{operandOf}
 use Rattle.lower.proofs.Firsts.{part-end, part-all}
 use Rattle.legraph.specs.Tables.{graph, noteFrom}

@@ -1,12 +1,12 @@
 -- The terms from the last one on are the whole. Assumes nothing.
-use mathlib.Core.Path.{_≡_, sym, ap, _∙_, refl}
+use mathlib.Core.Path.{_≡_, sym, _∙_, refl}
 use mathlib.Core.List.{map}
 use Prim.Native.Nat.{ℕ, _-_, _≤_}
 use native.Mathlib.Omega.{arith}
 use lib.Seq.{drop-length}
-use lib.ListN.{length, getD, drop}
+use lib.ListN.{length, drop}
 use Rattle.operand.specs.Numbers.{termOf}
-use Rattle.legraph.specs.Tables.{graph, note, noteTerms}
+use Rattle.legraph.specs.Tables.{graph, noteTerms}
 use Rattle.legraph.proofs.Laws.{terms-back}
 use borrow.Author.Needs.{needs}
 use Rattle.legraph.proofs.uses.note_terms.Statement.{statement}

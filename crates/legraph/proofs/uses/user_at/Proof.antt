@@ -1,5 +1,4 @@
 -- The two ways of the definition. Assumes nothing.
-use mathlib.Core.Bool.{cond}
 use native.Mathlib.Omega.{arith}
 use borrow.Author.Needs.{needs}
 use Rattle.legraph.proofs.uses.user_at.Statement.{statement}

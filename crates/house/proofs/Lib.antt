@@ -1,0 +1,2 @@
+pub mod Sorting
+pub mod Theorem

@@ -1,0 +1,4 @@
+pub mod Format
+pub mod Decoding
+pub mod Reading
+pub mod First

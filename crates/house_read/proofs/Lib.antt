@@ -1,0 +1,14 @@
+pub mod Runs
+pub mod Answers
+pub mod Has
+pub mod Round
+pub mod Tallies
+pub mod Writes
+pub mod Exact
+pub mod Exactly
+pub mod Stored
+pub mod Backs
+pub mod Files
+pub mod Sorted
+pub mod Refusals
+pub mod Standings

@@ -1,0 +1,84 @@
+-- Expansion as the program does it: terms are written one after the other to a store, and what is known to write nothing is passed over.
+--
+--   inPlace            what is put in the place of a wire, by the table of definitions and the decisions: none where the wire stands
+--   dead alive t       no bit that can be set in the wire of t gets through the shifts of t: nothing would be written
+--   spelt              the store of new terms and how far it is filled, as a state of Steps.antt
+--   spell              a term expanded and written; spellUnder, the terms of its definition that are left
+--
+-- Assumes nothing.
+use mathlib.Core.Path.{_≡_}
+use Prim.Native.Nat.{ℕ, zero, suc, _<_}
+use mathlib.Core.Bool.{Bool, true, false, cond}
+use mathlib.Core.List.{List, [], _∷_}
+use mathlib.Core.Option.{Option, none, some}
+use lib.Dec.{ltb, eqb}
+use lib.ListN.{length, getD, set}
+use Rattle.shift.specs.declared.Shift.{Shift}
+use Rattle.shift.specs.Shifts.{validNumber, shiftAt, applyOf}
+use Rattle.operand.specs.declared.PushInner.{PushInner}
+use Rattle.operand.specs.declared.PushInner.the-variants.{Seq, Zero, OverBudget}
+use Rattle.operand.specs.Numbers.{Term, Operand, termNumber}
+use Rattle.operand.specs.Push.{pushValid}
+use Rattle.lower.specs.Lists.{All}
+use Rattle.lower.specs.Stores.{Stands}
+use Rattle.legraph.specs.Walked.{rhsIn}
+use Rattle.patch.specs.declared.Cursor.{Cursor}
+use Rattle.patch.specs.Steps.{Written, wrote, put, writeDown}
+
+-- the stores that expansion reads
+pub record Source : Type 0 where
+  pub old : List ℕ
+  pub new : List ℕ
+  pub rhss : List ℕ
+  pub table : List ℕ
+  pub decisions : List ℕ
+  pub alive : List ℕ
+
+abbrev pub source : List ℕ → List ℕ → List ℕ → List ℕ → List ℕ → List ℕ → Source
+source old new rhss table decisions alive = record { old = old; new = new; rhss = rhss; table = table; decisions = decisions; alive = alive }
+
+-- n is a node: 0 where the wire is not defined, or its definition, counted from 1; a decision of 0 is Commit
+abbrev pub placeOf : Source → ℕ → Option Operand
+placeOf s zero = none
+placeOf s (suc d) = cond (eqb (getD (s .decisions) d 0) 0) none (some (rhsIn (s .old) (s .new) (s .rhss) d))
+
+unfoldable pub inPlace : Source → ℕ → Option Operand
+inPlace s w = placeOf s (getD (s .table) w 0)
+
+-- the node of what is put in the place of a node
+abbrev pub inlinedNumber : List ℕ → ℕ → ℕ
+inlinedNumber decisions zero = 0
+inlinedNumber decisions (suc d) = cond (eqb (getD decisions d 0) 0) 0 (suc d)
+
+abbrev pub aliveAt : Source → ℕ → ℕ
+aliveAt s zero = 0
+aliveAt s (suc d) = getD (s .alive) d 0
+
+unfoldable pub dead : Source → Term → Bool
+dead s t = eqb (applyOf (shiftAt (t .outer)) (applyOf (shiftAt (t .inner)) (aliveAt s (getD (s .table) (t .wire) 0)))) 0
+
+-- no definition is marked on the way: that is told by other means
+abbrev pub spelt : List ℕ → Cursor → Written
+spelt l c = wrote l (c .count) [] (c .full)
+
+-- the terms of a definition that are left, below the shifts i and o
+unfoldable pub spellUnder : (Term → Written → Written) → Shift → Shift → Operand → Written → Written
+spellUnder go i o [] m = m
+spellUnder go i o (u ∷ us) m = spellUnder go i o us (writeDown go (u .wire) (pushValid i o (shiftAt (u .inner)) 2) m)
+
+unfoldable pub spellBy : Source → (Term → Written → Written) → Term → Option Operand → Written → Written
+spellBy s go t none m = put t m
+spellBy s go t (some rhs) m = cond (dead s t) m (spellUnder go (shiftAt (t .inner)) (shiftAt (t .outer)) rhs m)
+
+unfoldable pub spell : Source → ℕ → Term → Written → Written
+spell s zero t m = cond (m .full) m (put t m)
+spell s (suc n) t m = cond (m .full) m (spellBy s (spell s n) t (inPlace s (t .wire)) m)
+
+-- what is read on the way is there: right sides in their stores, with valid shifts
+pub record Opens (s : Source) (d : ℕ) : Type 0 where
+  pub right-side : d < length (s .rhss)
+  pub stands : Stands (s .old) (s .new) (getD (s .rhss) d 0)
+  pub shifts : All (λ (u : Term). validNumber (u .inner) ≡ true) (rhsIn (s .old) (s .new) (s .rhss) d)
+
+abbrev pub Readable : Source → Type 0
+Readable s = (w d : ℕ) → getD (s .table) w 0 ≡ suc d → Opens s d
