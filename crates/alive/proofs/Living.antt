@@ -209,3 +209,20 @@ module _ (i o s : Shift) (hi : Valid i) (ho : Valid o) (hs : Valid s) (slots : �
   -- at Zero the three clear every word
   pub zero-clears : pushValid i o s slots ≡ Zero → (w : ℕ) → w < 2 ^ 64 → applyOf o (applyOf i (applyOf s w)) ≡ 0
   zero-clears e = fold-says Zero e
+
+-- ---- identities
+
+none-back : (v : ShiftVariant) → pulledBack v 0 ones ≡ ones
+unfolding pulledBack back turn halves
+none-back Sll = refl
+none-back Slr = refl
+none-back Sar = refl
+none-back Rotr = refl
+none-back Sll32 = refl
+none-back Srl32 = refl
+none-back Sra32 = refl
+none-back Rotr32 = refl
+
+-- an identity takes every bit in
+pub identity-back : (s : Shift) → s .amount ≡ 0 → pulled s ones ≡ ones
+identity-back s e = ap (λ (n : ℕ). pulledBack (s .variant) n ones) e ∙ none-back (s .variant)

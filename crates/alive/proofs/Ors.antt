@@ -1,12 +1,12 @@
 -- Or and and of words, by bits; or goes through a shift. Assumes nothing.
 use mathlib.Core.Path.{_≡_, sym, ap, ap₂, _∙_}
-use Prim.Native.Nat.{ℕ, _/_, _%_, _^_, _≤_, _<_}
+use Prim.Native.Nat.{ℕ, _-_, _/_, _%_, _^_, _≤_, _<_}
 use native.Mathlib.Nat.{zero-div}
 use native.Mathlib.Decide.{ℕ-discrete}
 use native.Mathlib.Omega.{arith}
-use lib.Pow.{pow-pos}
+use lib.Pow.{pow-pos, ones-sub-lt}
 use lib.Bits.{bitAnd, bitOr, and-shr, and-mod, or-shr, or-mod, and-zero-l, and-zero-r, or-lt, or-add-and, and-le-l, and-le-r}
-use Rattle.word.proofs.Bits.{bit, bit-lt, ext}
+use Rattle.word.proofs.Bits.{bit, bit-lt, bit-not, ext}
 use Rattle.word.proofs.Moves.{Moves}
 use Rattle.shift.specs.declared.Shift.{Shift}
 use Rattle.shift.specs.Shifts.{Valid, applyOf}
@@ -101,3 +101,32 @@ or-through {f} m a b h l =
 -- a shift of an or is the or of the shifted words
 pub or-shifted : (s : Shift) → Valid s → (a b : ℕ) → a < 2 ^ 64 → b < 2 ^ 64 → applyOf s (bitOr a b) ≡ bitOr (applyOf s a) (applyOf s b)
 or-shifted s h = or-through (moves (s .variant) (s .amount) h)
+
+-- ---- words that have a bit in common with the same words are equal
+
+module _ (a b : ℕ) (ha : a < 2 ^ 64) (hb : b < 2 ^ 64) where
+  -- the complement of b has no bit in common with b, so none with a
+  under-by : ((x : ℕ) → x < 2 ^ 64 → bitAnd x b ≡ 0 → bitAnd x a ≡ 0) → (i : ℕ) → i < 64 → bit a i ≡ 1 → bit b i ≡ 1
+  under-by f i l e = step (digit b i)
+    where
+      rest : ℕ
+      rest = 2 ^ 64 - 1 - b
+
+      rest-lt : rest < 2 ^ 64
+      rest-lt = ones-sub-lt 64 b
+
+      none : bitAnd rest b ≡ 0
+      none = apart 64 rest b rest-lt (λ j k p q. let z : bit rest j ≡ 1 - bit b j = bit-not 64 b j hb k in omega arith)
+
+      step : Digit (bit b i) → bit b i ≡ 1
+      step (on d) = d
+      step (off d) = let z : bit rest i ≡ 1 - bit b i = bit-not 64 b i hb l in absurd (shared rest a i (omega arith) e (f rest rest-lt none))
+
+pub same-by : (a b : ℕ) → a < 2 ^ 64 → b < 2 ^ 64 → ((x : ℕ) → x < 2 ^ 64 → bitAnd x b ≡ 0 → bitAnd x a ≡ 0) → ((x : ℕ) → x < 2 ^ 64 → bitAnd x a ≡ 0 → bitAnd x b ≡ 0)
+    → a ≡ b
+same-by a b ha hb f g = ext 64 ha hb (λ i l. step i l (digit a i) (digit b i))
+  where
+    step : (i : ℕ) → i < 64 → Digit (bit a i) → Digit (bit b i) → bit a i ≡ bit b i
+    step i l (on d) e = d ∙ sym (under-by a b ha hb f i l d)
+    step i l (off d) (off e) = d ∙ sym e
+    step i l (off d) (on e) = under-by b a hb ha g i l e ∙ sym e

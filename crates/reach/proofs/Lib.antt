@@ -2,3 +2,9 @@ pub mod Joins
 pub mod Writing
 pub mod Meeting
 pub mod Reaching
+pub mod Storing
+pub mod Masking
+pub mod Pulling
+pub mod Taking
+pub mod Sums
+pub mod Theorem

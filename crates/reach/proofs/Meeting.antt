@@ -1,6 +1,6 @@
 -- An uncommitted definition is met while operands are rebuilt exactly where its mask is not 0. Assumes nothing.
 use mathlib.Core.Path.{_≡_, refl, sym, ap, _∙_}
-use mathlib.Core.Bool.{Bool, true}
+use mathlib.Core.Bool.{false, Bool, true}
 use mathlib.Core.List.{List, _++_, List·Memᴰ}
 use mathlib.Core.Option.{Option, none, some}
 use Prim.Native.Nat.{ℕ, zero, suc, _+_, _^_, _<_}
@@ -17,7 +17,7 @@ use Rattle.alive.proofs.Ors.{misses-left, misses-right}
 use Rattle.alive.proofs.Pulls.{pulled-right}
 use Rattle.alive.proofs.Living.{shift-alive}
 use Rattle.lower.specs.Lists.{All, done, more, keep, joined}
-use Rattle.lower.specs.Model.{Row, Definition, System, defines, rowOperands, definitionOperands, termsOf}
+use Rattle.lower.specs.Model.{definitionOf, Row, Definition, System, defines, rowOperands, definitionOperands, termsOf}
 use Rattle.lower.specs.Accepted.{ShiftsOf, Shifted, Single, isIdentity}
 use Rattle.lower.proofs.Laws.{all-left, all-right, all-both}
 use Rattle.lower.proofs.Alls.{all-join, all-unjoin, all-unmap}
@@ -25,10 +25,10 @@ use Rattle.lower.proofs.Accepts.{defines-none}
 use Rattle.commit_set.proofs.Members.{all-at, all-roots, all-terms}
 use Rattle.shift.proofs.Numbers.{valid-at}
 use Rattle.patch.specs.Expansion.{under, folded, descend, DescendFits, metBy, met, FitsBy, Fits}
-use Rattle.patch.specs.Patch.{inlined, depth, metTerm, metOperand, rebuilt, rowRebuilds, rebuilds, allMet, NeverOver}
-use Rattle.patch.proofs.Parts.{Which, is-true, is-false, which, lost, all-members, all-keep, all-mapped, all-gather}
+use Rattle.patch.specs.Patch.{inlined, depth, metTerm, metOperand, commits, rebuilt, rowRebuilds, rhssOf, rebuilds, allMet, NeverOver}
+use Rattle.patch.proofs.Parts.{Which, is-true, is-false, which, lost, all-each, all-members, all-keep, all-unkept, all-mapped, all-gather}
 use Rattle.patch.proofs.Chains.{inlined-defined}
-use Rattle.patch.proofs.Definitions.{of-looked-up, inlined-uncommitted, commits-of}
+use Rattle.patch.proofs.Definitions.{of-looked-up, inlined-uncommitted, commits-of, commits-at}
 use Rattle.reach.specs.Alive.{orAll, carried}
 use Rattle.reach.specs.Reach.{fromRoot, fromTerm, fromDefinition, IsReach}
 use Rattle.reach.proofs.Joins.{misses-each, pulled-clears, fold-seq, fold-alive}
@@ -36,24 +36,56 @@ use Rattle.reach.proofs.Writing.{inlined-shifts}
 
 -- ---- the terms of what is rebuilt
 
--- what holds of every term holds of the terms of the operands that are rebuilt
-pub roots-of : {P : Term → Type 0} (p : System) (c : ℕ → Bool) → All P (termsOf p) → All (All P) (rebuilds p c)
-unfolding rebuilds rowRebuilds rowOperands definitionOperands
-roots-of {P} p c h =
-    let r : All (All P) (rowOperands p) = all-unjoin P (rowOperands p) (all-roots P p h) in
+-- what holds of the terms of constraints and of committed definitions holds of the terms of the operands that are rebuilt
+pub roots-by : {P : Term → Type 0} (p : System) (c : ℕ → Bool) → All (All P) (rowOperands p)
+    → ((w : ℕ) (rhs : Operand) → c w ≡ true → definitionOf (p .linears) w ≡ some rhs → All P rhs) → All (All P) (rebuilds p c)
+unfolding rebuilds rowRebuilds rowOperands
+roots-by {P} p c r f =
     let r1 = all-right (All P) (joined (p .ands)) (joined (p .imuls) ++ (joined (p .bmuls) ++ joined (p .zeros))) r in
     let r2 = all-right (All P) (joined (p .imuls)) (joined (p .bmuls) ++ joined (p .zeros)) r1 in
     all-both (All P) (rows (p .ands) (all-left (All P) (joined (p .ands)) (joined (p .imuls) ++ (joined (p .bmuls) ++ joined (p .zeros))) r))
     (all-both (All P) (rows (p .imuls) (all-left (All P) (joined (p .imuls)) (joined (p .bmuls) ++ joined (p .zeros)) r1))
     (all-both (All P) (rows (p .bmuls) (all-left (All P) (joined (p .bmuls)) (joined (p .zeros)) r2))
     (all-both (All P) (rows (p .zeros) (all-right (All P) (joined (p .bmuls)) (joined (p .zeros)) r2))
-    (all-mapped (λ (d : Definition). d .rhs) (commits-of p c {Q = λ (d : Definition). All P (d .rhs)} (λ w rhs k e. of-looked-up {P = λ (d : Definition). All P (d .rhs)} defined w rhs e))))))
+    (all-mapped (λ (d : Definition). d .rhs) (commits-of p c {Q = λ (d : Definition). All P (d .rhs)} f)))))
   where
-    defined : All (λ (d : Definition). All P (d .rhs)) (p .linears)
-    defined = all-unmap (All P) (λ (d : Definition). d .rhs) (p .linears) (all-unjoin P (definitionOperands p) (all-terms P p h))
-
     rows : (rs : List Row) → All (All P) (joined rs) → All (All P) (rowRebuilds p c rs)
     rows rs k = all-join (All P) (keep (rebuilt (p .linears)) rs) (all-keep (rebuilt (p .linears)) (all-unjoin (All P) rs k))
+
+-- what holds of the terms of the operands that are rebuilt, and of those of the constraints that are not, holds of the terms of constraints
+pub rows-by : {P : Term → Type 0} (p : System) (c : ℕ → Bool) → All (All P) (rebuilds p c)
+    → ((r : Row) → rebuilt (p .linears) r ≡ false → All (All P) r) → All (All P) (rowOperands p)
+unfolding rebuilds rowRebuilds rowOperands
+rows-by {P} p c r f =
+    let z : All (All P) (rowRebuilds p c (p .zeros) ++ rhssOf (commits p c)) = all-right (All P) (rowRebuilds p c (p .bmuls)) _ (all-right (All P) (rowRebuilds p c (p .imuls)) _ (all-right (All P) (rowRebuilds p c (p .ands)) _ r)) in
+    all-both (All P) (rows (p .ands) (all-left (All P) (rowRebuilds p c (p .ands)) _ r))
+    (all-both (All P) (rows (p .imuls) (all-left (All P) (rowRebuilds p c (p .imuls)) _ (all-right (All P) (rowRebuilds p c (p .ands)) _ r)))
+    (all-both (All P) (rows (p .bmuls) (all-left (All P) (rowRebuilds p c (p .bmuls)) _ (all-right (All P) (rowRebuilds p c (p .imuls)) _ (all-right (All P) (rowRebuilds p c (p .ands)) _ r))))
+    (rows (p .zeros) (all-left (All P) (rowRebuilds p c (p .zeros)) _ z))))
+  where
+    one : (x : Row) → (rebuilt (p .linears) x ≡ true → All (All P) x) → Which (rebuilt (p .linears) x) → All (All P) x
+    one x g (is-true q) = g q
+    one x g (is-false q) = f x q
+
+    rows : (rs : List Row) → All (All P) (rowRebuilds p c rs) → All (All P) (joined rs)
+    rows rs k = all-join (All P) rs (all-each (λ x g. one x g (which (rebuilt (p .linears) x))) (all-unkept (rebuilt (p .linears)) rs (all-unjoin (All P) (keep (rebuilt (p .linears)) rs) k)))
+
+-- and the committed definitions
+pub commits-by : {P : Term → Type 0} (p : System) (c : ℕ → Bool) → All (All P) (rebuilds p c)
+    → (w : ℕ) (rhs : Operand) → w < p .wires → c w ≡ true → definitionOf (p .linears) w ≡ some rhs → All P rhs
+unfolding rebuilds
+commits-by {P} p c r w rhs b k e =
+    commits-at p c {Q = λ (d : Definition). All P (d .rhs)}
+    (all-unmap (All P) (λ (d : Definition). d .rhs) (commits p c)
+    (all-right (All P) (rowRebuilds p c (p .zeros)) _ (all-right (All P) (rowRebuilds p c (p .bmuls)) _ (all-right (All P) (rowRebuilds p c (p .imuls)) _ (all-right (All P) (rowRebuilds p c (p .ands)) _ r)))))
+    w rhs b k e
+
+-- what holds of every term holds of the terms of the operands that are rebuilt
+pub roots-of : {P : Term → Type 0} (p : System) (c : ℕ → Bool) → All P (termsOf p) → All (All P) (rebuilds p c)
+unfolding definitionOperands
+roots-of {P} p c h =
+    roots-by p c (all-unjoin P (rowOperands p) (all-roots P p h))
+    (λ w rhs k e. of-looked-up {P = λ (d : Definition). All P (d .rhs)} (all-unmap (All P) (λ (d : Definition). d .rhs) (p .linears) (all-unjoin P (definitionOperands p) (all-terms P p h))) w rhs e)
 
 -- a wire whose definition is put in its place is defined
 pub inlined-defines : (p : System) (c : ℕ → Bool) (w : ℕ) (rhs : Operand) → inlined p c w ≡ some rhs → defines (p .linears) w ≡ true

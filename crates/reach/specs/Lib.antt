@@ -1,2 +1,3 @@
 pub mod Alive
 pub mod Reach
+pub mod Steps
