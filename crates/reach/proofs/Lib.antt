@@ -8,3 +8,4 @@ pub mod Pulling
 pub mod Taking
 pub mod Sums
 pub mod Theorem
+pub mod Told
