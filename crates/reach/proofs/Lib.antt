@@ -9,3 +9,4 @@ pub mod Taking
 pub mod Sums
 pub mod Theorem
 pub mod Told
+pub mod Dead
