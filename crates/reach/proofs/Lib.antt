@@ -10,3 +10,4 @@ pub mod Sums
 pub mod Theorem
 pub mod Told
 pub mod Dead
+pub mod Sources
