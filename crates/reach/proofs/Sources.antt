@@ -19,8 +19,10 @@ use Rattle.legraph.proofs.Theorem.{count, rhs-same, dst-same, small}
 use Rattle.commit_set.specs.Numbers.{stateAt}
 use Rattle.patch.specs.Expansion.{below, expand, Fits, Within}
 use Rattle.patch.specs.Patch.{commitSet, inlined}
-use Rattle.patch.specs.Spelling.{Source, source, placeOf, inPlace, aliveAt, dead}
+use Rattle.patch.specs.Spelling.{Source, source, placeOf, inPlace, aliveAt, dead, spell}
+use Rattle.patch.specs.Steps.{Does}
 use Rattle.patch.proofs.Parts.{lost}
+use Rattle.patch.proofs.Spelled.{does-spell}
 use Rattle.patch.proofs.Definitions.{undefined-clear}
 use Rattle.reach.specs.Alive.{aliveWire, IsAlive, AliveIn}
 use Rattle.reach.specs.Steps.{Held, held}
@@ -76,3 +78,7 @@ module _ (z : Sizes) (s : Stores) (e : memoryFault 8192 z s ≡ 0) (once : Once 
     pub source-tells : (n : ℕ) (t : Term) (rhs : Operand) → inPlace src (t .wire) ≡ some rhs → Within (inPlace src) (suc n) (t .wire) → Fits (inPlace src) (suc n) t → dead src t ≡ true
         → below (expand (inPlace src) n) t rhs ≡ []
     source-tells = dead-tells src (λ w rhs k. inlined-shifts p c shifted w rhs (sym (place-is w) ∙ k)) (aliveWire p c) masks (alive-held a)
+
+    -- so what the program writes is the expansion
+    pub source-spells : (n : ℕ) (t : Term) → Within (inPlace src) n (t .wire) → Fits (inPlace src) n t → Does (spell src n t) (expand (inPlace src) n t) []
+    source-spells = does-spell src source-tells
