@@ -8,3 +8,6 @@ pub mod Pulling
 pub mod Taking
 pub mod Sums
 pub mod Theorem
+pub mod Told
+pub mod Dead
+pub mod Sources

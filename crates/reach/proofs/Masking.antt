@@ -36,7 +36,7 @@ use Rattle.reach.specs.Steps.{Held, rhsAt, dstAt, committedAt, maskAt, a
 
 -- ---- places of a list
 
-getD-any : (l : List ℕ) (i a b : ℕ) → i < length l → getD l i a ≡ getD l i b
+pub getD-any : (l : List ℕ) (i a b : ℕ) → i < length l → getD l i a ≡ getD l i b
 getD-any [] i a b h = absurd (omega arith)
 getD-any (x ∷ xs) zero a b h = refl
 getD-any (x ∷ xs) (suc i) a b h = getD-any xs i a b (omega arith)
@@ -54,6 +54,14 @@ committed-number n = go (eqb n 0) (contextAt (n / 2))
     go : (b : Bool) (x : CommitSetCx) → committed (cond b Commit (Inline x)) ≡ b
     go true x = refl
     go false x = refl
+
+-- the store keeps its length
+pub alive-length : (h : Held) (ds l : List ℕ) → length (aliveFrom h ds l) ≡ length l
+unfolding aliveFrom aliveStep
+alive-length h [] l = refl
+alive-length h (d ∷ ds) l =
+    on-cond (λ (k : List ℕ). length k ≡ length l) (committedAt h d) (λ e. alive-length h ds l)
+    (λ e. length-set (aliveFrom h ds l) (dstAt h d) (orAll (through (maskAt (aliveFrom h ds l))) (rhsAt h d)) ∙ alive-length h ds l)
 
 -- the stores hold the definitions of the system
 pub record Holds (h : Held) (p : System) : Type 0 where

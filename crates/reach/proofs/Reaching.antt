@@ -74,7 +74,7 @@ module _ (p : System) (c : ℕ → Bool) (once : Once (p .linears)) (no-circle :
   D = inlined p c
 
   -- an uncommitted definition of the list is what is put in the place of its wire
-  put-in : (d : Definition) → List·Memᴰ d (p .linears) → c (d .dst) ≡ false → D (d .dst) ≡ some (d .rhs)
+  pub put-in : (d : Definition) → List·Memᴰ d (p .linears) → c (d .dst) ≡ false → D (d .dst) ≡ some (d .rhs)
   unfolding inlined
   put-in d m e = rw e (all-at (λ (x : Definition). definitionOf (p .linears) (x .dst) ≡ some (x .rhs)) (p .linears) d (looks-up (p .linears) once) m)
 

@@ -28,7 +28,7 @@ use Rattle.legraph.specs.Orders.{Posted}
 use Rattle.legraph.proofs.Listing.{tableOf, found-at, found-by}
 use Rattle.commit_set.specs.Numbers.{stateAt}
 use Rattle.commit_set.proofs.Members.{all-get}
-use Rattle.commit_set.proofs.Valids.{valid-at}
+use Rattle.shift.proofs.Numbers.{valid-at}
 use Rattle.patch.specs.Patch.{commitSet, inlined, rebuilt, rebuilds}
 use Rattle.patch.proofs.Parts.{Which, is-true, is-false, which, lost, all-each, all-two}
 use Rattle.patch.proofs.Definitions.{stands, not-rebuilt}

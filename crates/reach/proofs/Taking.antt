@@ -23,7 +23,7 @@ use Rattle.legraph.specs.Orders as O
 use Rattle.legraph.specs.Orders.{Link, Posted}
 use Rattle.legraph.proofs.Walking.{links-in}
 use Rattle.legraph.proofs.Listing.{tableOf, found-by}
-use Rattle.commit_set.proofs.Valids.{valid-at}
+use Rattle.shift.proofs.Numbers.{valid-at}
 use Rattle.patch.proofs.Parts.{all-members}
 use Rattle.reach.specs.Reach.{fromTerm}
 use Rattle.reach.specs.Steps.{Held, rhsAt, dstAt, committedAt, maskAt, pullTerm, pullTerms, pullOperands, taken, reachStep, reachFrom, Usable}

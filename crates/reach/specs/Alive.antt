@@ -6,16 +6,17 @@
 --   through a u       what the mask of the wire of u, a term of a definition, becomes under its shift
 --   alive D n w       the bits of w that some undefined or committed wire below it has a part in; D and n as in an expansion
 --   IsAlive D a       what these masks are, with no bound
---   aliveWire         the masks of a system, for a set of committed wires
+--   aliveWire         the masks of a system, for a set of committed wires; AliveIn, that they stand in a store
 --
 -- A shift copies bits or drops them, and an expansion looks at shifts alone: two terms never cancel, so masks join by or.
 --
 -- Assumes nothing.
 use mathlib.Core.Path.{_≡_}
-use Prim.Native.Nat.{ℕ, zero, suc}
+use Prim.Native.Nat.{ℕ, zero, suc, _<_}
 use mathlib.Core.Bool.{Bool}
 use mathlib.Core.List.{List, [], _∷_}
 use mathlib.Core.Option.{Option, none, some}
+use lib.ListN.{getD}
 use lib.Bits.{bitOr}
 use Rattle.shift.specs.Shifts.{shiftAt, applyOf}
 use Rattle.operand.specs.Numbers.{Term, Operand}
@@ -51,3 +52,7 @@ module _ (D : ℕ → Option Operand) where
 
 unfoldable pub aliveWire : System → (ℕ → Bool) → ℕ → ℕ
 aliveWire p c = alive (inlined p c) (depth p c)
+
+-- the masks of n definitions with these destinations stand in a store, one number a definition
+abbrev pub AliveIn : System → (ℕ → Bool) → ℕ → List ℕ → List ℕ → Type 0
+AliveIn p c n dsts out = (d : ℕ) → d < n → getD out d 0 ≡ aliveWire p c (getD dsts d 0)

@@ -6,6 +6,7 @@
 --   fromDefinition r w   the bits of w that a definition takes in, none where it is committed
 --   reachBy r w          all of them, from the masks r of the definitions
 --   IsReach r            every mask is a word, and that of an uncommitted definition is what the occurrences of its wire say
+--   ReachIn n dsts out   the masks of n definitions stand in the store `out`
 --
 -- No order of the definitions is named.
 --
@@ -15,6 +16,8 @@ use Prim.Native.Nat.{ℕ, _^_, _<_}
 use mathlib.Core.Bool.{Bool, cond}
 use mathlib.Core.Option.{some}
 use lib.Dec.{eqb}
+use mathlib.Core.List.{List}
+use lib.ListN.{getD}
 use lib.Bits.{bitOr}
 use Rattle.shift.specs.Shifts.{shiftAt}
 use Rattle.operand.specs.Numbers.{Term, Operand}
@@ -42,3 +45,9 @@ module _ (p : System) (c : ℕ → Bool) where
   pub record IsReach (r : ℕ → ℕ) : Type 0 where
     pub words : (w : ℕ) → r w < 2 ^ 64
     pub sums : (w : ℕ) (rhs : Operand) → inlined p c w ≡ some rhs → r w ≡ reachBy r w
+
+  -- the masks of the definitions, n of them with these destinations, stand in a store
+  pub record ReachIn (n : ℕ) (dsts out : List ℕ) : Type 0 where
+    pub reach : ℕ → ℕ
+    pub is-reach : IsReach reach
+    pub stands-in : (d : ℕ) → d < n → getD out d 0 ≡ reach (getD dsts d 0)

@@ -8,22 +8,26 @@
 --                       pullOperands, after operands that are rebuilt, of which every bit gets in
 --   taken h d l         the bits of the definition d that get in: all, where it is committed
 --   reachStep h d l     the store l after the definition d; reachFrom, after the definitions ds, one after the other
+--   Gathered n dsts masks out   the masks of the wires of n definitions stand in the store `out`, one number a definition
+--   Order rhs table n ds        an order of n definitions, each before those that it names
+--   Pullable .. hs n            the first n of the operands hs end within their stores, and their terms are usable
 --   Usable n t          the term t names one of n wires, and its shift is valid
 --   Able h n d          what is needed of the definition d: it has its right side, its destination is one of n wires, its terms are usable
 --
 -- Assumes nothing.
 use mathlib.Core.Path.{_≡_}
-use Prim.Native.Nat.{ℕ, _<_}
+use Prim.Native.Nat.{ℕ, _≤_, _<_}
 use mathlib.Core.Bool.{Bool, true, cond}
-use mathlib.Core.List.{List, [], _∷_}
+use mathlib.Core.List.{List, [], _∷_, List·Memᴰ}
 use lib.Dec.{eqb}
-use lib.ListN.{length, getD, set}
+use lib.ListN.{length, getD, set, take}
 use lib.Bits.{bitOr}
 use Rattle.shift.specs.Shifts.{validNumber, shiftAt}
 use Rattle.operand.specs.Numbers.{Term, Operand, operandOf}
 use Rattle.alive.specs.Masks.{ones, pulled}
 use Rattle.lower.specs.Lists.{All}
 use Rattle.lower.specs.Stores.{Stands}
+use Rattle.legraph.specs.Orders.{Posted}
 use Rattle.legraph.specs.Walked.{rhsIn}
 use Rattle.reach.specs.Alive.{orAll, through}
 
@@ -90,3 +94,19 @@ reachStep h d l = pullTerms (taken h d l) (rhsAt h d) l
 unfoldable pub reachFrom : Held → List ℕ → List ℕ → List ℕ
 reachFrom h [] l = l
 reachFrom h (d ∷ ds) l = reachFrom h ds (reachStep h d l)
+
+-- the masks of the wires of n definitions, one number a definition
+pub record Gathered (n : ℕ) (dsts masks out : List ℕ) : Type 0 where
+  pub gathered : (d : ℕ) → d < n → getD out d 0 ≡ maskAt masks (getD dsts d 0)
+
+-- an order of all n definitions, each before those that it names
+pub record Order (rhs : ℕ → Operand) (table : List ℕ) (n : ℕ) (ds : List ℕ) : Type 0 where
+  pub posted : Posted rhs table ds
+  pub only : (d : ℕ) → List·Memᴰ d ds → d < n
+  pub whole : (d : ℕ) → d < n → List·Memᴰ d ds
+
+-- the first n of the operands hs end within their stores, and their terms are usable
+pub record Pullable (old new : List ℕ) (wires : ℕ) (hs : List ℕ) (n : ℕ) : Type 0 where
+  pub there : n ≤ length hs
+  pub standing : All (Stands old new) (take n hs)
+  pub fit : All (λ (h : ℕ). All (Usable wires) (operandOf old new h)) (take n hs)

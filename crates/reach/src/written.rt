@@ -14,7 +14,7 @@ fn term_mask(t: u64, masks: &[u64]) -> u64
     ensures { λ r. ⌜ r ≡ through (maskAt (now (masks .entry))) (termOf t) ⌝ }
 {
     let w = operand::term::wire(t);
-    let s = crate::shift_at(operand::term::inner(t));
+    let s = shift::valid::from_index(operand::term::inner(t));
     let i = w.0 as usize;
     shift::valid::apply(s, masks[i])
 }

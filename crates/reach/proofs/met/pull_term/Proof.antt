@@ -1,10 +1,9 @@
 -- The bits of the term's wire that its shift moves into the mask are joined to those there. Assumes nothing.
 use Rattle.reach.proofs.Pulling.{pull-is}
-use Rattle.commit_set.proofs.Valids.{valid-at}
 use Rattle.alive.specs.Masks.{pulled}
-use Rattle.shift.specs.Shifts.{Valid, shiftAt}
+use Rattle.shift.specs.Shifts.{validNumber, shiftAt}
 use Rattle.shift.specs.declared.Shift.{Shift}
-use mathlib.Core.Path.{sym, ap, _∙_, subst}
+use mathlib.Core.Path.{ap, _∙_}
 use borrow.Author.Needs.{needs}
 use Rattle.reach.proofs.met.pull_term.Statement.{statement}
 use Rattle.reach.proofs.met.pull_term.Tie as tie
@@ -15,11 +14,11 @@ wire-requires c κs = search needs
 inner-requires : tie.Need-inner-requires
 inner-requires c κs = search needs
 
-shift-at-requires : tie.Need-shift-at-requires
-shift-at-requires c κs = search needs
+from-index-requires : tie.Need-from-index-requires
+from-index-requires c κs = ap validNumber (c .inner .ensures) ∙ c .before .before .before .pre .1
 
 pulled-requires : tie.Need-pulled-requires
-pulled-requires c κs = subst Valid (sym (c .shift-at .ensures ∙ ap shiftAt (c .before .inner .ensures))) (valid-at _ (c .before .before .before .before .pre .1))
+pulled-requires c κs = c .from-index .ensures .1
 
 cast-i : tie.Need-cast-i
 cast-i c = search needs
@@ -40,7 +39,7 @@ same-length : tie.Need-same-length
 same-length c = search needs
 
 returns : tie.Need-returns
-returns c = let s = c .before .before .before .before .before .before .before in pull-is (s .args .t) (s .args .m) _ (c .before .before .pulled .result) (s .args .masks .now) (c .before .before .before .before .before .wire .ensures) (c .before .before .pulled .ensures ∙ ap (λ (x : Shift). pulled x (s .args .m)) (c .before .before .before .shift-at .ensures ∙ ap shiftAt (c .before .before .before .before .inner .ensures)))
+returns c = let s = c .before .before .before .before .before .before .before in pull-is (s .args .t) (s .args .m) _ (c .before .before .pulled .result) (s .args .masks .now) (c .before .before .before .before .before .wire .ensures) (c .before .before .pulled .ensures ∙ ap (λ (x : Shift). pulled x (s .args .m)) (c .before .before .before .from-index .ensures .0 ∙ ap shiftAt (c .before .before .before .before .inner .ensures)))
 
 pub pull-term-spec : {M : Type 1} → statement M
 pull-term-spec =
@@ -48,7 +47,7 @@ pull-term-spec =
     (tie.spec
     wire-requires
     inner-requires
-    shift-at-requires
+    from-index-requires
     pulled-requires
     cast-i
     mul-masks
