@@ -17,7 +17,7 @@ use Rattle.lower.specs.Stores.{chunks, rowsOf, definitionsOf}
 use Rattle.lower.proofs.Laws.{all-left, all-right, all-both, joined-map, chunks-length, chunks-flat, operand-kept, operand-written, sets-below, definitions-same}
 use Rattle.lower.proofs.Alls.{all-unjoin}
 use Rattle.patch.specs.Lists.{gather, upTo}
-use Rattle.patch.specs.Patch.{rhssOf, expandOperand, rebuilt, rowRebuilds, patchRows, commits, commitAt, allMet, isStranded, stranded, rebuild, patched}
+use Rattle.patch.specs.Patch.{rhssOf, expandOperand, rebuilt, rowRebuilds, patchRows, commits, commitAt, allMet, isStranded, stranded, stays, rebuild, patched}
 use Rattle.patch.specs.Handles.{handlesFrom, keepBy, commitsFrom}
 use Rattle.patch.proofs.Parts.{all-each, all-keep, all-mapped, gather-append}
 use Rattle.patch.proofs.Counting.{length-parted}
@@ -203,10 +203,6 @@ keep-by-length q (d ∷ ds) (h ∷ hs) e = go (q d) (keep-by-length q ds hs (ome
     go false k = k
 
 module _ (p : System) (c : ℕ → Bool) where
-  -- a wire's definition is neither rebuilt nor gone
-  abbrev pub stays : ℕ → Bool
-  stays w = not (c w) && not (someOf (eqb w) (allMet p c))
-
   made-definitions : (g : ℕ → Operand) (ds : List Definition) (es : List ℕ) → map g es ≡ map (expandOperand p c) (rhssOf ds) → definitionsOf g (destinations ds) es ≡ map (rebuild p c) ds
   unfolding rebuild
   made-definitions g [] es e = refl
@@ -219,12 +215,12 @@ module _ (p : System) (c : ℕ → Bool) where
   -- closed up by destination, and the committed ones after them: the definitions of the patched system
   pub linears-patched : (f g : ℕ → Operand) (ds hs es : List ℕ) → p .linears ≡ definitionsOf f ds hs → length ds ≡ length hs → All (λ (h : ℕ). g h ≡ f h) hs
       → map g es ≡ map (expandOperand p c) (rhssOf (commits p c))
-      → definitionsOf g (keep stays ds ++ destinations (commits p c)) (keepBy stays ds hs ++ es) ≡ patched p c .linears
+      → definitionsOf g (keep (stays p c) ds ++ destinations (commits p c)) (keepBy (stays p c) ds hs ++ es) ≡ patched p c .linears
   unfolding patched stranded isStranded
   linears-patched f g ds hs es are long same new =
-      definitions-append g (keep stays ds) (destinations (commits p c)) (keepBy stays ds hs) es (keep-by-length stays ds hs long)
+      definitions-append g (keep (stays p c) ds) (destinations (commits p c)) (keepBy (stays p c) ds hs) es (keep-by-length (stays p c) ds hs long)
       ∙ ap₂ {C = List Definition} _++_
-      (keep-definitions g stays ds hs long ∙ ap (keep (λ (d : Definition). stays (d .dst))) (definitions-same g f ds hs same ∙ sym are))
+      (keep-definitions g (stays p c) ds hs long ∙ ap (keep (λ (d : Definition). stays p c (d .dst))) (definitions-same g f ds hs same ∙ sym are))
       (made-definitions g (commits p c) es new)
 
 -- ---- committed definitions, one wire after the other

@@ -1,21 +1,30 @@
 -- Operands rebuilt one after the other: their terms go to a store of new terms, and their numbers to a list.
 --
 --   Built              the store of new terms, and the list of operand numbers with how many it has
---   buildOne go o      one operand more: go writes a term
+--   builtBy            the same, by what the program carries
+--   buildOne go o      one operand more: go writes a term. Where the list is full nothing is done
 --   buildAll go os     the operands that are left
 --   Rooted             what is asked of an operand that is rebuilt: it stands in its store, and its shifts are valid
+--   rowsIn             the operands of the rows that name a defined wire, by the table
+--   committedAt        the right side of a node that is a committed definition; commitsIn, of the wires w, w + 1, .., n of them
+--   operandsIn         all operands that are rebuilt, in their order
 --
 -- Assumes nothing.
 use mathlib.Core.Path.{_≡_}
-use Prim.Native.Nat.{ℕ, suc, _-_}
-use mathlib.Core.Bool.{true}
-use mathlib.Core.List.{List, [], _∷_}
-use lib.ListN.{set}
+use Prim.Native.Nat.{ℕ, zero, suc, _-_}
+use mathlib.Core.Bool.{true, cond}
+use mathlib.Core.List.{List, [], _∷_, _++_}
+use lib.Dec.{ltb, eqb}
+use lib.ListN.{length, getD, set}
 use Rattle.operand.specs.Numbers.{Term, Operand, operandOf, operandNumber}
-use Rattle.lower.specs.Lists.{All}
+use Rattle.lower.specs.declared.Sizes.{Sizes}
+use Rattle.lower.specs.Lists.{All, keep, joined}
 use Rattle.lower.specs.Accepted.{ShiftsOf}
-use Rattle.lower.specs.Stores.{Stands}
+use Rattle.lower.specs.Stores.{Stands, rowsOf}
+use Rattle.legraph.specs.Walked.{rhsIn}
+use Rattle.patch.specs.declared.Progress.{Progress}
 use Rattle.patch.specs.Steps.{Written, writeTerms}
+use Rattle.patch.specs.Spelling.{Source, spelt, rowNames}
 
 pub record Built : Type 0 where
   pub wrote : Written
@@ -25,13 +34,18 @@ pub record Built : Type 0 where
 abbrev pub built : Written → List ℕ → ℕ → Built
 built m l n = record { wrote = m; list = l; at = n }
 
+abbrev pub builtBy : List ℕ → List ℕ → Progress → Built
+builtBy out list b = built (spelt out (b .cursor)) list (b .at)
+
 -- the operand that stands in the new store from the place a on, up to the place b
 abbrev pub handle : ℕ → ℕ → ℕ
 handle a b = operandNumber (record { start = a; len = b - a; new = true })
 
 unfoldable pub buildOne : (Term → Written → Written) → Operand → Built → Built
 buildOne go o b =
-    built (writeTerms go o (b .wrote)) (set (b .list) (b .at) (handle (b .wrote .count) (writeTerms go o (b .wrote) .count))) (suc (b .at))
+    cond (ltb (b .at) (length (b .list)))
+    (built (writeTerms go o (b .wrote)) (set (b .list) (b .at) (handle (b .wrote .count) (writeTerms go o (b .wrote) .count))) (suc (b .at)))
+    b
 
 unfoldable pub buildAll : (Term → Written → Written) → List Operand → Built → Built
 buildAll go [] b = b
@@ -39,3 +53,21 @@ buildAll go (o ∷ os) b = buildAll go os (buildOne go o b)
 
 abbrev pub Rooted : List ℕ → List ℕ → ℕ → Type 0
 Rooted old new h = Stands old new h × All ShiftsOf (operandOf old new h)
+
+-- n rows of k operand numbers each
+unfoldable pub rowsIn : Source → ℕ → ℕ → List ℕ → List Operand
+rowsIn s k n hs = joined (keep (rowNames (s .table)) (rowsOf (operandOf (s .old) (s .new)) k n hs))
+
+-- n is a node; a decision of 0 is Commit
+abbrev pub committedAt : Source → ℕ → List Operand
+committedAt s zero = []
+committedAt s (suc d) = cond (eqb (getD (s .decisions) d 0) 0) (rhsIn (s .old) (s .new) (s .rhss) d ∷ []) []
+
+unfoldable pub commitsIn : Source → ℕ → ℕ → List Operand
+commitsIn s w zero = []
+commitsIn s w (suc n) = committedAt s (getD (s .table) w 0) ++ commitsIn s (suc w) n
+
+unfoldable pub operandsIn : Source → Sizes → List ℕ → List ℕ → List ℕ → List ℕ → List Operand
+operandsIn s z ands imuls bmuls zeros =
+    rowsIn s 3 (z .ands) ands
+    ++ (rowsIn s 4 (z .imuls) imuls ++ (rowsIn s 6 (z .bmuls) bmuls ++ (rowsIn s 1 (z .zeros) zeros ++ commitsIn s 0 (z .wires))))

@@ -10,7 +10,7 @@
 --   rebuilds             the operands that are expanded, in the order of the rebuilding
 --   written              the terms that rebuilding writes, in its order; termsWritten, how many
 --   allMet               the wires whose definitions some rebuilding meets
---   isGone, isStranded   an uncommitted definition is met, or never; gone, stranded: those definitions
+--   isGone, isStranded   an uncommitted definition is met, or never; gone, stranded: those definitions; stays, by its wire
 --   patchRows            a list of constraints after patching; patched, the system
 --   live                 the patched system, its stranded definitions set aside
 --   kept                 the wires that need a stored value
@@ -112,6 +112,10 @@ module _ (p : System) (c : ℕ → Bool) where
   -- "one never met is *stranded*"
   unfoldable pub isStranded : Definition → Bool
   isStranded d = not (c (d .dst)) && not (someOf (eqb (d .dst)) allMet)
+
+  -- the definition of a wire is neither rebuilt nor gone
+  abbrev pub stays : ℕ → Bool
+  stays w = not (c w) && not (someOf (eqb w) allMet)
 
   unfoldable pub gone : List Definition
   gone = keep isGone (p .linears)

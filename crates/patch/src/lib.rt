@@ -7,3 +7,9 @@ pub struct Cursor {
     pub count: usize,
     pub full: bool,
 }
+
+// The same, and how many operand numbers the list of new ones has.
+pub struct Progress {
+    pub cursor: Cursor,
+    pub at: usize,
+}

@@ -1,0 +1,1 @@
+// The patched lists, written over the old ones. Follows frontend/src/pass/fusion/patch.rs.
