@@ -1,4 +1,33 @@
 // The fusion pass: decide, rebuild, patch. Follows frontend/src/pass/fusion/mod.rs.
+ghost use mathlib.Core.Path.{_≡_};
+ghost use mathlib.Core.Bool.{Bool, true};
+ghost use mathlib.Core.List.{[]};
+ghost use Prim.Native.Nat.{ℕ, _<_, _≤_};
+ghost use lib.ListN.{length, take, replicate};
+ghost use Rattle.lower.specs.Accepted.{MAX_TERMS, Once, Single, NoCircle};
+ghost use Rattle.lower.specs.Stores.{stores, systemOf};
+ghost use Rattle.lower.specs.Faults.{memoryFault};
+ghost use Rattle.legraph.specs.Tables.{numbered};
+ghost use Rattle.commit_set.specs.Numbers.{stateAt};
+ghost use Rattle.patch.specs.Patch.{commitSet};
+ghost use Rattle.patch.specs.Steps.{wrote};
+ghost use Rattle.patch.specs.Spelling.{source, spell, Readable, inPlace};
+ghost use Rattle.patch.specs.Expansion.{Within};
+ghost use Rattle.patch.specs.Building.{built, builtBy, buildAll, operandsIn};
+ghost use Rattle.reach.specs.Alive.{AliveIn};
+ghost use Rattle.reach.specs.Reach.{ReachIn};
+ghost use Rattle.fusion.specs.Left.{lent, hasRoom, countsOf, leaves};
+ghost use Rattle.fusion.specs.Answer.{toldFused, Fuses};
+ghost use Rattle.fusion.specs.Steps.{Ready, chosen, Holds, Rebuilt, lacksRoom, Patched};
+use lower::Sizes;
+use patch::Progress;
+use patch::Cursor;
+
+// Operands of rebuilt constraints: six at most of each of 1,024, and one of each of 1,024 definitions.
+const MAX_OPERANDS: usize = 7168;
+
+// Terms of the store of new terms.
+const MAX_NEW_TERMS: usize = 16384;
 
 // What is told of a patched system.
 pub struct Counts {
@@ -14,4 +43,184 @@ pub struct Counts {
 pub enum Fused {
     Done(Counts),
     Refused(u8),
+}
+
+// Whether the result does not fit.
+fn lacks_room(c: Cursor, new: usize, flags: usize, wires: usize) -> bool
+    ensures { λ r. ⌜ r ≡ lacksRoom c new flags wires ⌝ }
+{
+    if c.full {
+        return true;
+    }
+    if new < c.count {
+        return true;
+    }
+    if flags < wires {
+        return true;
+    }
+    false
+}
+
+// Writes the patched system over the old one.
+fn apply_patches(
+    old: &[u64],
+    new: &mut [u64],
+    ands: &mut [u64],
+    imuls: &mut [u64],
+    bmuls: &mut [u64],
+    zeros: &mut [u64],
+    dsts: &mut [u16],
+    rhss: &mut [u64],
+    flags: &mut [u8],
+    z: Sizes,
+    decisions: &[u64],
+    table: &[u16],
+    reach: &[u64],
+    out: &[u64],
+    list: &[u64],
+    count: usize,
+) -> Counts
+    requires { ⌜ Ready z (stores (now old) [] (now ands) (now imuls) (now bmuls) (now zeros) (now dsts) (now rhss)) (now decisions) ⌝ }
+    requires { ⌜ now table ≡ numbered 0 (take (z .linears) (now dsts)) (replicate 4096 0) ⌝ }
+    requires { ⌜ ReachIn (systemOf z (stores (now old) [] (now ands) (now imuls) (now bmuls) (now zeros) (now dsts) (now rhss))) (chosen z (stores (now old) [] (now ands) (now imuls) (now bmuls) (now zeros) (now dsts) (now rhss)) (now decisions)) (z .linears) (now dsts) (now reach) ⌝ }
+    requires { ⌜ Holds (systemOf z (stores (now old) [] (now ands) (now imuls) (now bmuls) (now zeros) (now dsts) (now rhss))) (chosen z (stores (now old) [] (now ands) (now imuls) (now bmuls) (now zeros) (now dsts) (now rhss)) (now decisions)) (now out) (now list) count ⌝ }
+    requires { ⌜ hasRoom (systemOf z (stores (now old) [] (now ands) (now imuls) (now bmuls) (now zeros) (now dsts) (now rhss))) (chosen z (stores (now old) [] (now ands) (now imuls) (now bmuls) (now zeros) (now dsts) (now rhss)) (now decisions)) (lent (now old) (now new) (now ands) (now imuls) (now bmuls) (now zeros) (now dsts) (now rhss) (now flags)) ≡ true ⌝ }
+    ensures { λ r. ⌜ lent (now (old .exit)) (now (new .exit)) (now (ands .exit)) (now (imuls .exit)) (now (bmuls .exit)) (now (zeros .exit)) (now (dsts .exit)) (now (rhss .exit)) (now (flags .exit)) ≡ leaves z (lent (now (old .entry)) (now (new .entry)) (now (ands .entry)) (now (imuls .entry)) (now (bmuls .entry)) (now (zeros .entry)) (now (dsts .entry)) (now (rhss .entry)) (now (flags .entry))) (chosen z (stores (now (old .entry)) [] (now (ands .entry)) (now (imuls .entry)) (now (bmuls .entry)) (now (zeros .entry)) (now (dsts .entry)) (now (rhss .entry))) (now (decisions .entry))) ⌝ }
+    ensures { λ r. ⌜ r ≡ countsOf (systemOf z (stores (now (old .entry)) [] (now (ands .entry)) (now (imuls .entry)) (now (bmuls .entry)) (now (zeros .entry)) (now (dsts .entry)) (now (rhss .entry)))) (chosen z (stores (now (old .entry)) [] (now (ands .entry)) (now (imuls .entry)) (now (bmuls .entry)) (now (zeros .entry)) (now (dsts .entry)) (now (rhss .entry))) (now (decisions .entry))) ⌝ }
+{
+    Counts { gone: 0, stranded: 0, committed: 0, written: 0, kept: 0 }
+}
+
+// The masks of the definitions, and with them all operands that are rebuilt.
+fn rebuild(
+    old: &[u64],
+    ands: &[u64],
+    imuls: &[u64],
+    bmuls: &[u64],
+    zeros: &[u64],
+    dsts: &[u16],
+    rhss: &[u64],
+    z: Sizes,
+    decisions: &[u64],
+    table: &mut [u16],
+    reach: &mut [u64],
+    out: &mut [u64],
+    list: &mut [u64],
+) -> Cursor
+    requires { ⌜ Ready z (stores (now old) [] (now ands) (now imuls) (now bmuls) (now zeros) (now dsts) (now rhss)) (now decisions) ⌝ }
+    requires { ⌜ (now table ≡ replicate 4096 0) × (length (now reach) ≡ 1024) × (length (now out) ≡ 16384) × (length (now list) ≡ 7168) ⌝ }
+    ensures { λ r. ⌜ now (table .exit) ≡ numbered 0 (take (z .linears) (now (dsts .entry))) (replicate 4096 0) ⌝ }
+    ensures { λ r. ⌜ ReachIn (systemOf z (stores (now (old .entry)) [] (now (ands .entry)) (now (imuls .entry)) (now (bmuls .entry)) (now (zeros .entry)) (now (dsts .entry)) (now (rhss .entry)))) (chosen z (stores (now (old .entry)) [] (now (ands .entry)) (now (imuls .entry)) (now (bmuls .entry)) (now (zeros .entry)) (now (dsts .entry)) (now (rhss .entry))) (now (decisions .entry))) (z .linears) (now (dsts .entry)) (now (reach .exit)) ⌝ }
+    ensures { λ r. ⌜ Rebuilt (systemOf z (stores (now (old .entry)) [] (now (ands .entry)) (now (imuls .entry)) (now (bmuls .entry)) (now (zeros .entry)) (now (dsts .entry)) (now (rhss .entry)))) (chosen z (stores (now (old .entry)) [] (now (ands .entry)) (now (imuls .entry)) (now (bmuls .entry)) (now (zeros .entry)) (now (dsts .entry)) (now (rhss .entry))) (now (decisions .entry))) (now (out .entry)) (now (list .entry)) (now (out .exit)) (now (list .exit)) r ⌝ }
+{
+    Cursor { count: 0, full: false }
+}
+
+// Rebuilds and patches a system that is decided, or answers 12.
+fn patch_decided(
+    old: &[u64],
+    new: &mut [u64],
+    ands: &mut [u64],
+    imuls: &mut [u64],
+    bmuls: &mut [u64],
+    zeros: &mut [u64],
+    dsts: &mut [u16],
+    rhss: &mut [u64],
+    flags: &mut [u8],
+    z: Sizes,
+    decisions: &[u64],
+) -> Fused
+    requires { ⌜ Ready z (stores (now old) [] (now ands) (now imuls) (now bmuls) (now zeros) (now dsts) (now rhss)) (now decisions) ⌝ }
+    ensures { λ r. ⌜ Patched z (now (decisions .entry)) (lent (now (old .entry)) (now (new .entry)) (now (ands .entry)) (now (imuls .entry)) (now (bmuls .entry)) (now (zeros .entry)) (now (dsts .entry)) (now (rhss .entry)) (now (flags .entry))) (lent (now (old .exit)) (now (new .exit)) (now (ands .exit)) (now (imuls .exit)) (now (bmuls .exit)) (now (zeros .exit)) (now (dsts .exit)) (now (rhss .exit)) (now (flags .exit))) (toldFused r) ⌝ }
+{
+    let wires = z.wires;
+    let mut table = [0u16; lower::MAX_WIRES];
+    let mut reach = [0u64; lower::MAX_DEFINITIONS];
+    let mut out = [0u64; MAX_NEW_TERMS];
+    let mut list = [0u64; MAX_OPERANDS];
+    let c = rebuild(
+        old,
+        &*ands,
+        &*imuls,
+        &*bmuls,
+        &*zeros,
+        &*dsts,
+        &*rhss,
+        z,
+        decisions,
+        &mut table,
+        &mut reach,
+        &mut out,
+        &mut list,
+    );
+    if lacks_room(c, new.len(), flags.len(), wires) {
+        return Fused::Refused(commit_set::ROOM);
+    }
+    Fused::Done(apply_patches(
+        old,
+        &mut *new,
+        &mut *ands,
+        &mut *imuls,
+        &mut *bmuls,
+        &mut *zeros,
+        &mut *dsts,
+        &mut *rhss,
+        &mut *flags,
+        z,
+        decisions,
+        &table,
+        &reach,
+        &out,
+        &list,
+        c.count,
+    ))
+}
+
+// Fuses a system in the lent stores with so many slots a term: its lists are patched, `new` has the new terms and `flags` the committed
+// wires; or a refusal, and everything is as it was.
+pub fn fuse(
+    old: &[u64],
+    new: &mut [u64],
+    ands: &mut [u64],
+    imuls: &mut [u64],
+    bmuls: &mut [u64],
+    zeros: &mut [u64],
+    dsts: &mut [u16],
+    rhss: &mut [u64],
+    flags: &mut [u8],
+    z: Sizes,
+    slots: u64,
+) -> Fused
+    ensures { λ r. ⌜ Fuses slots z (lent (now (old .entry)) (now (new .entry)) (now (ands .entry)) (now (imuls .entry)) (now (bmuls .entry)) (now (zeros .entry)) (now (dsts .entry)) (now (rhss .entry)) (now (flags .entry))) (lent (now (old .exit)) (now (new .exit)) (now (ands .exit)) (now (imuls .exit)) (now (bmuls .exit)) (now (zeros .exit)) (now (dsts .exit)) (now (rhss .exit)) (now (flags .exit))) (toldFused r) ⌝ }
+{
+    let mut decisions = [0u64; lower::MAX_DEFINITIONS];
+    let fault = commit_set::decide(
+        old,
+        &old[0..0],
+        &*ands,
+        &*imuls,
+        &*bmuls,
+        &*zeros,
+        &*dsts,
+        &*rhss,
+        z,
+        slots,
+        &mut decisions,
+    );
+    if fault != 0 {
+        return Fused::Refused(fault);
+    }
+    patch_decided(
+        old,
+        &mut *new,
+        &mut *ands,
+        &mut *imuls,
+        &mut *bmuls,
+        &mut *zeros,
+        &mut *dsts,
+        &mut *rhss,
+        &mut *flags,
+        z,
+        &decisions,
+    )
 }

@@ -1,0 +1,61 @@
+-- What stands between the steps of fusing.
+--
+--   Ready          a system that nothing is refused in, and its decisions
+--   chosen         the wires that they commit
+--   Rebuilt        what rebuilding has come to: the new terms and the numbers of their operands, or a store that is too short
+--   Holds          the new terms and the numbers of their operands, from the front of their stores on
+--   lacksRoom      12, once rebuilding is done
+--   Patched        what is answered and left for these decisions
+--
+-- Assumes nothing.
+use mathlib.Core.Path.{_≡_}
+use Prim.Native.Nat.{ℕ, _≤_, _<_}
+use mathlib.Core.Bool.{Bool, true, false, _||_}
+use mathlib.Core.List.{List, [], _∷_, map}
+use lib.Dec.{ltb}
+use lib.ListN.{length, take}
+use lib.Seq.{sets}
+use Rattle.operand.specs.Numbers.{termNumber}
+use Rattle.lower.specs.declared.Sizes.{Sizes}
+use Rattle.lower.specs.Model.{System}
+use Rattle.lower.specs.Accepted.{NoCircle}
+use Rattle.lower.specs.Stores.{Stores, systemOf}
+use Rattle.commit_set.specs.Decision.{Solves}
+use Rattle.commit_set.specs.Numbers.{stateAt}
+use Rattle.commit_set.specs.Answer.{ROOM, decisionFault}
+use Rattle.patch.specs.declared.Cursor.{Cursor}
+use Rattle.patch.specs.Patch.{commitSet, written, termsWritten, rebuilds}
+use Rattle.fusion.specs.declared.Fused.the-variants.{Done}
+use Rattle.fusion.specs.Left.{Lent, input, fused, numbers, hasRoom, countsOf, leaves}
+use Rattle.fusion.specs.Answer.{toldFused}
+
+pub record Ready (z : Sizes) (s : Stores) (decisions : List ℕ) : Type 0 where
+  pub slots : ℕ
+  pub fault : decisionFault slots z s ≡ 0
+  pub no-circle : NoCircle (systemOf z s)
+  pub solves : Solves slots (systemOf z s) (stateAt decisions)
+  pub long : z .linears ≤ length decisions
+
+abbrev pub chosen : Sizes → Stores → List ℕ → ℕ → Bool
+chosen z s decisions = commitSet (systemOf z s) (stateAt decisions)
+
+pub record Holds (p : System) (c : ℕ → Bool) (out list : List ℕ) (n : ℕ) : Type 0 where
+  pub count : n ≡ termsWritten p c
+  pub terms : take (termsWritten p c) out ≡ map termNumber (written p c)
+  pub listed : take (length (rebuilds p c)) list ≡ numbers p c
+  pub there : length (rebuilds p c) ≤ length list
+
+-- out and list are the stores of new terms and of operand numbers before, out′ and list′ after
+pub record Rebuilt (p : System) (c : ℕ → Bool) (out list out′ list′ : List ℕ) (b : Cursor) : Type 0 where
+  pub over : length out < termsWritten p c → b .full ≡ true
+  pub fits : termsWritten p c ≤ length out → b .full ≡ false
+  pub holds : termsWritten p c ≤ length out → Holds p c out′ list′ (b .count)
+
+-- new and flags are the lengths of what is lent
+unfoldable pub lacksRoom : Cursor → ℕ → ℕ → ℕ → Bool
+lacksRoom c new flags wires = c .full || (ltb new (c .count) || ltb flags wires)
+
+pub data Patched (z : Sizes) (decisions : List ℕ) (l l′ : Lent) : List ℕ → Type 0 where
+  short : hasRoom (fused z l) (chosen z (input l) decisions) l ≡ false → l′ ≡ l → Patched z decisions l l′ (ROOM ∷ [])
+  patches : hasRoom (fused z l) (chosen z (input l) decisions) l ≡ true → l′ ≡ leaves z l (chosen z (input l) decisions)
+      → Patched z decisions l l′ (toldFused (Done (countsOf (fused z l) (chosen z (input l) decisions))))
