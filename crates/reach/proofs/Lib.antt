@@ -12,3 +12,4 @@ pub mod Told
 pub mod Dead
 pub mod Sources
 pub mod Ordered
+pub mod Once

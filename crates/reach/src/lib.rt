@@ -12,7 +12,7 @@ ghost use Rattle.commit_set.specs.Numbers.{stateAt};
 ghost use Rattle.patch.specs.Patch.{commitSet};
 ghost use Rattle.reach.specs.Alive.{AliveIn};
 ghost use Rattle.reach.specs.Reach.{ReachIn};
-ghost use Rattle.reach.specs.Steps.{pullOperands, Pullable, Gathered, Order};
+ghost use Rattle.reach.specs.Steps.{pullOperands, Pullable, Gathered, Filled, Order};
 use lower::Sizes;
 
 pub mod met;
@@ -22,6 +22,7 @@ pub mod written;
 fn gather(dsts: &[u16], n: usize, masks: &[u64], out: &mut [u64])
     requires { ⌜ (n ≤ length (now dsts)) × (n ≤ length (now out)) × All (λ (w : ℕ). w < length (now masks)) (take n (now dsts)) ⌝ }
     ensures { λ r. ⌜ Gathered n (now (dsts .entry)) (now (masks .entry)) (now (out .exit)) ⌝ }
+    ensures { λ r. ⌜ Filled n (now (out .entry)) (now (out .exit)) ⌝ }
 {
     let mut i: usize = 0;
     while i < n {
@@ -52,6 +53,7 @@ pub fn alive_masks<'a>(
     requires { ⌜ Order (rhsIn (now old) (now new) (now rhss)) (numbered 0 (take (z .linears) (now dsts)) (replicate 4096 0)) (z .linears) (drop left (now order)) ⌝ }
     requires { ⌜ (left ≤ length (now order)) × (z .linears ≤ length (now decisions)) × (z .linears ≤ length (now out)) ⌝ }
     ensures { λ r. ⌜ AliveIn (systemOf z (stores (now (old .entry)) (now (new .entry)) (now (ands .entry)) (now (imuls .entry)) (now (bmuls .entry)) (now (zeros .entry)) (now (dsts .entry)) (now (rhss .entry)))) (commitSet (systemOf z (stores (now (old .entry)) (now (new .entry)) (now (ands .entry)) (now (imuls .entry)) (now (bmuls .entry)) (now (zeros .entry)) (now (dsts .entry)) (now (rhss .entry)))) (stateAt (now (decisions .entry)))) (z .linears) (now (dsts .entry)) (now (out .exit)) ⌝ }
+    ensures { λ r. ⌜ Filled (z .linears) (now (out .entry)) (now (out .exit)) ⌝ }
 {
     let n = z.linears;
     let mut masks = [0xffff_ffff_ffff_ffffu64; lower::MAX_WIRES];
@@ -108,6 +110,7 @@ pub fn reach_masks<'a>(
     requires { ⌜ Order (rhsIn (now old) (now new) (now rhss)) (numbered 0 (take (z .linears) (now dsts)) (replicate 4096 0)) (z .linears) (drop left (now order)) ⌝ }
     requires { ⌜ (left ≤ length (now order)) × (z .linears ≤ length (now decisions)) × (z .linears ≤ length (now out)) ⌝ }
     ensures { λ r. ⌜ ReachIn (systemOf z (stores (now (old .entry)) (now (new .entry)) (now (ands .entry)) (now (imuls .entry)) (now (bmuls .entry)) (now (zeros .entry)) (now (dsts .entry)) (now (rhss .entry)))) (commitSet (systemOf z (stores (now (old .entry)) (now (new .entry)) (now (ands .entry)) (now (imuls .entry)) (now (bmuls .entry)) (now (zeros .entry)) (now (dsts .entry)) (now (rhss .entry)))) (stateAt (now (decisions .entry)))) (z .linears) (now (dsts .entry)) (now (out .exit)) ⌝ }
+    ensures { λ r. ⌜ Filled (z .linears) (now (out .entry)) (now (out .exit)) ⌝ }
 {
     let n = z.linears;
     let mut masks = [0u64; lower::MAX_WIRES];
@@ -160,6 +163,7 @@ pub fn masks<'a>(
     ensures { λ r. ⌜ now (table .exit) ≡ numbered 0 (take (z .linears) (now (dsts .entry))) (replicate 4096 0) ⌝ }
     ensures { λ r. ⌜ AliveIn (systemOf z (stores (now (old .entry)) (now (new .entry)) (now (ands .entry)) (now (imuls .entry)) (now (bmuls .entry)) (now (zeros .entry)) (now (dsts .entry)) (now (rhss .entry)))) (commitSet (systemOf z (stores (now (old .entry)) (now (new .entry)) (now (ands .entry)) (now (imuls .entry)) (now (bmuls .entry)) (now (zeros .entry)) (now (dsts .entry)) (now (rhss .entry)))) (stateAt (now (decisions .entry)))) (z .linears) (now (dsts .entry)) (now (alive .exit)) ⌝ }
     ensures { λ r. ⌜ ReachIn (systemOf z (stores (now (old .entry)) (now (new .entry)) (now (ands .entry)) (now (imuls .entry)) (now (bmuls .entry)) (now (zeros .entry)) (now (dsts .entry)) (now (rhss .entry)))) (commitSet (systemOf z (stores (now (old .entry)) (now (new .entry)) (now (ands .entry)) (now (imuls .entry)) (now (bmuls .entry)) (now (zeros .entry)) (now (dsts .entry)) (now (rhss .entry)))) (stateAt (now (decisions .entry)))) (z .linears) (now (dsts .entry)) (now (reach .exit)) ⌝ }
+    ensures { λ r. ⌜ Filled (z .linears) (now (alive .entry)) (now (alive .exit)) × Filled (z .linears) (now (reach .entry)) (now (reach .exit)) ⌝ }
 {
     let n = z.linears;
     legraph::add_lin_defs(dsts, n, &mut *table);

@@ -54,7 +54,7 @@ same-length-3 c = search needs
 
 returns : tie.Need-returns
 returns c = let s = c .before .before .before .before .before .before .before .before .before .before .before .before .before .before .before .before .before .before .before .before .before .before .before .before .before .before .before .before .before .before in
-    (c .before .before .before .before .before .before .before .before .before .before .before .before .before .before .before .before .add-lin-defs .ensures ∙ ap (numbered 0 (take (s .args .z .linears) (s .args .dsts .now))) (s .pre .1 .1 .1 .1 .0), (c .before .before .before .before .before .before .before .alive-masks .ensures, c .before .before .reach-masks .ensures))
+    (c .before .before .before .before .before .before .before .before .before .before .before .before .before .before .before .before .add-lin-defs .ensures ∙ ap (numbered 0 (take (s .args .z .linears) (s .args .dsts .now))) (s .pre .1 .1 .1 .1 .0), (c .before .before .before .before .before .before .before .alive-masks .ensures .0, (c .before .before .reach-masks .ensures .0, (c .before .before .before .before .before .before .before .alive-masks .ensures .1, c .before .before .reach-masks .ensures .1))))
 
 pub masks-spec : {M : Type 1} → statement M
 masks-spec =
