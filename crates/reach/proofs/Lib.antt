@@ -11,3 +11,5 @@ pub mod Theorem
 pub mod Told
 pub mod Dead
 pub mod Sources
+pub mod Ordered
+pub mod Once

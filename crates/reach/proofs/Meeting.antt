@@ -87,13 +87,17 @@ roots-of {P} p c h =
     roots-by p c (all-unjoin P (rowOperands p) (all-roots P p h))
     (λ w rhs k e. of-looked-up {P = λ (d : Definition). All P (d .rhs)} (all-unmap (All P) (λ (d : Definition). d .rhs) (p .linears) (all-unjoin P (definitionOperands p) (all-terms P p h))) w rhs e)
 
+-- a wire that has a right side is defined
+pub defines-by : (ds : List Definition) (w : ℕ) (rhs : Operand) → definitionOf ds w ≡ some rhs → defines ds w ≡ true
+defines-by ds w rhs e = step (which (defines ds w))
+  where
+    step : Which (defines ds w) → defines ds w ≡ true
+    step (is-true q) = q
+    step (is-false q) = absurd (lost e (defines-none ds w .0 q))
+
 -- a wire whose definition is put in its place is defined
 pub inlined-defines : (p : System) (c : ℕ → Bool) (w : ℕ) (rhs : Operand) → inlined p c w ≡ some rhs → defines (p .linears) w ≡ true
-inlined-defines p c w rhs e = step (which (defines (p .linears) w))
-  where
-    step : Which (defines (p .linears) w) → defines (p .linears) w ≡ true
-    step (is-true q) = q
-    step (is-false q) = absurd (lost (inlined-defined p c w rhs e) (defines-none (p .linears) w .0 q))
+inlined-defines p c w rhs e = defines-by (p .linears) w rhs (inlined-defined p c w rhs e)
 
 module _ (p : System) (c : ℕ → Bool) (shifted : Shifted p) (r : ℕ → ℕ) (is : IsReach p c r) where
   abbrev D : ℕ → Option Operand
@@ -109,7 +113,7 @@ module _ (p : System) (c : ℕ → Bool) (shifted : Shifted p) (r : ℕ → ℕ)
   root-covered valid o m t k s d x b e =
       let h : ShiftsOf t = all-at ShiftsOf o t (all-at (All ShiftsOf) (rebuilds p c) o valid m) k in
       let n : bitAnd x (orAll (fromRoot (t .wire)) (joined (rebuilds p c))) ≡ 0
-      = misses-left 64 x (orAll (fromRoot (t .wire)) (joined (rebuilds p c))) (orAll (fromDefinition p c r (t .wire)) (p .linears)) b (ap (bitAnd x) (sym (is .sums (t .wire) s d)) ∙ e) in
+      = misses-left 64 x (orAll (fromRoot (t .wire)) (joined (rebuilds p c))) (orAll (fromDefinition p c r (t .wire)) (p .linears)) b (ap (bitAnd x) (sym (is .sums (t .wire) (inlined-defines p c (t .wire) s d))) ∙ e) in
       let each = all-unjoin (λ (v : Term). bitAnd x (fromRoot (t .wire) v) ≡ 0) (rebuilds p c) (misses-each (fromRoot (t .wire)) x b (joined (rebuilds p c)) n) in
       let here : bitAnd x (fromRoot (t .wire) t) ≡ 0
       = all-at (λ (v : Term). bitAnd x (fromRoot (t .wire) v) ≡ 0) o t (all-at (All (λ (v : Term). bitAnd x (fromRoot (t .wire) v) ≡ 0)) (rebuilds p c) o each m) k in
@@ -120,7 +124,7 @@ module _ (p : System) (c : ℕ → Bool) (shifted : Shifted p) (r : ℕ → ℕ)
       → (x : ℕ) → x < 2 ^ 64 → bitAnd x (r (u .wire)) ≡ 0 → bitAnd (applyOf (shiftAt (u .inner)) x) (r w) ≡ 0
   term-takes w rhs e u m h s d x b z =
       let n : bitAnd x (orAll (fromDefinition p c r (u .wire)) (p .linears)) ≡ 0
-      = misses-right 64 x (orAll (fromRoot (u .wire)) (joined (rebuilds p c))) (orAll (fromDefinition p c r (u .wire)) (p .linears)) b (ap (bitAnd x) (sym (is .sums (u .wire) s d)) ∙ z) in
+      = misses-right 64 x (orAll (fromRoot (u .wire)) (joined (rebuilds p c))) (orAll (fromDefinition p c r (u .wire)) (p .linears)) b (ap (bitAnd x) (sym (is .sums (u .wire) (inlined-defines p c (u .wire) s d))) ∙ z) in
       let one = of-looked-up {P = λ (d : Definition). bitAnd x (fromDefinition p c r (u .wire) d) ≡ 0} (misses-each (fromDefinition p c r (u .wire)) x b (p .linears) n) w rhs (inlined-defined p c w rhs e) in
       let here = all-at (λ (v : Term). bitAnd x (fromTerm (r w) (u .wire) v) ≡ 0) rhs u (misses-each (fromTerm (r w) (u .wire)) x b rhs (rw (inlined-uncommitted p c w rhs e) at one)) m in
       pulled-right (shiftAt (u .inner)) (valid-at (u .inner) (h .0)) x (r w) b (is .words w) .1 (rw (eq-eqb (u .wire) (u .wire) refl) at here)

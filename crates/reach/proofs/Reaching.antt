@@ -22,7 +22,7 @@ use Rattle.alive.specs.Masks.{pulled}
 use Rattle.alive.proofs.Ors.{misses-or}
 use Rattle.alive.proofs.Pulls.{pulled-right}
 use Rattle.lower.specs.Lists.{All, done, more, someOf, joined}
-use Rattle.lower.specs.Model.{Definition, System, definitionOf}
+use Rattle.lower.specs.Model.{Definition, System, definitionOf, defines}
 use Rattle.lower.specs.Accepted.{ShiftsOf, Shifted, Single, Once, NoCircle}
 use Rattle.lower.proofs.Alls.{all-join}
 use Rattle.lower.proofs.Somes.{none-all, all-none}
@@ -39,7 +39,7 @@ use Rattle.reach.specs.Alive.{orAll, carried}
 use Rattle.reach.specs.Reach.{fromRoot, fromTerm, fromDefinition, IsReach}
 use Rattle.reach.proofs.Joins.{misses-all, clears-pulled, fold-seq, fold-zero}
 use Rattle.reach.proofs.Writing.{inlined-shifts}
-use Rattle.reach.proofs.Meeting.{roots-of, met-has-mask}
+use Rattle.reach.proofs.Meeting.{roots-of, inlined-defines, met-has-mask}
 
 -- ---- chains
 
@@ -82,12 +82,12 @@ module _ (p : System) (c : ℕ → Bool) (once : Once (p .linears)) (no-circle :
 
   module _ (r q : ℕ → ℕ) (is : IsReach p c r) (js : IsReach p c q) where
     -- the masks of a wire agree where those of the definitions that name it do
-    agrees : (v : ℕ) (rhs : Operand) → D v ≡ some rhs → ((d : Definition) → List·Memᴰ d (p .linears) → c (d .dst) ≡ false → (u : Term) → List·Memᴰ u (d .rhs) → u .wire ≡ v → r (d .dst) ≡ q (d .dst)) → r v ≡ q v
-    agrees v rhs e f =
-        is .sums v rhs e
+    agrees : (v : ℕ) → defines (p .linears) v ≡ true → ((d : Definition) → List·Memᴰ d (p .linears) → c (d .dst) ≡ false → (u : Term) → List·Memᴰ u (d .rhs) → u .wire ≡ v → r (d .dst) ≡ q (d .dst)) → r v ≡ q v
+    agrees v e f =
+        is .sums v e
         ∙ ap (bitOr (orAll (fromRoot v) (joined (rebuilds p c)))) (or-same (fromDefinition p c r v) (fromDefinition p c q v)
         (all-members (p .linears) (λ d m. same (c (d .dst)) _ _ (λ e. or-same (fromTerm (r (d .dst)) v) (fromTerm (q (d .dst)) v) (all-members (d .rhs) (λ u k. term d m e u k (eqb (u .wire) v) refl))))))
-        ∙ sym (js .sums v rhs e)
+        ∙ sym (js .sums v e)
       where
         term : (d : Definition) → List·Memᴰ d (p .linears) → c (d .dst) ≡ false → (u : Term) → List·Memᴰ u (d .rhs) → (b : Bool) → eqb (u .wire) v ≡ b
             → cond b (pulled (shiftAt (u .inner)) (r (d .dst))) 0 ≡ cond b (pulled (shiftAt (u .inner)) (q (d .dst))) 0
@@ -96,11 +96,11 @@ module _ (p : System) (c : ℕ → Bool) (once : Once (p .linears)) (no-circle :
 
     up : (k n : ℕ) → n + k ≡ depth p c → (v : ℕ) → Chained D n v → r v ≡ q v
     up zero n e v h = absurd (let z : n ≡ depth p c = omega arith in too-long D n v (rw z (deep p c no-circle v)) h)
-    up (suc k) n e v h = let s = starts h in agrees v (s .0) (s .1) (λ d m f u l z. up k (suc n) (omega arith) (d .dst) (link (d .rhs) u (put-in d m f) l (rw z h)))
+    up (suc k) n e v h = let s = starts h in agrees v (inlined-defines p c v (s .0) (s .1)) (λ d m f u l z. up k (suc n) (omega arith) (d .dst) (link (d .rhs) u (put-in d m f) l (rw z h)))
 
-    -- THE THEOREM: where there is no circle the masks are determined
-    pub reach-only : (v : ℕ) (rhs : Operand) → D v ≡ some rhs → r v ≡ q v
-    reach-only v rhs e = up (depth p c) 0 (omega arith) v (last rhs e)
+    -- THE THEOREM: where there is no circle the masks of the definitions are determined
+    pub reach-only : (v : ℕ) → defines (p .linears) v ≡ true → r v ≡ q v
+    reach-only v e = agrees v e (λ d m f u l z. up (depth p c) 0 (omega arith) (d .dst) (last (d .rhs) (put-in d m f)))
 
   -- ---- what rebuilding comes to
 
@@ -158,7 +158,7 @@ module _ (p : System) (c : ℕ → Bool) (once : Once (p .linears)) (no-circle :
           → ((d : Definition) → List·Memᴰ d (p .linears) → c (d .dst) ≡ false → (u : Term) → List·Memᴰ u (d .rhs) → u .wire ≡ v
           → bitAnd (applyOf (shiftAt (u .inner)) y) (r (d .dst)) ≡ 0) → bitAnd y (r v) ≡ 0
       misses v rhs e y b f g =
-          ap (bitAnd y) (is .sums v rhs e)
+          ap (bitAnd y) (is .sums v (inlined-defines p c v rhs e))
           ∙ misses-or 64 y (orAll (fromRoot v) (joined (rebuilds p c))) (orAll (fromDefinition p c r v) (p .linears)) b
           (misses-all (fromRoot v) y b (all-join (λ (t : Term). bitAnd y (fromRoot v t) ≡ 0) (rebuilds p c) (all-members (rebuilds p c) (λ o m. all-members o (λ t k.
           put (λ (x : ℕ). bitAnd y x ≡ 0) (eqb (t .wire) v)

@@ -6,7 +6,7 @@ use Prim.Native.Nat.{ℕ, zero, suc, _^_, _<_}
 use native.Mathlib.Omega.{arith}
 use mathlib.Core.Bool.{Bool, true, false, cond}
 use mathlib.Core.List.{List, [], _∷_, map, List·Memᴰ}
-use mathlib.Core.Option.{Option, none, some}
+use mathlib.Core.Option.{Option, some}
 use lib.Dec.{eqb, lit<}
 use lib.ListN.{length, getD, replicate, length-replicate}
 use lib.Bits.{bitAnd, and-zero-r, or-lt}
@@ -30,13 +30,14 @@ use Rattle.commit_set.specs.Numbers.{stateAt}
 use Rattle.commit_set.proofs.Members.{all-get}
 use Rattle.shift.proofs.Numbers.{valid-at}
 use Rattle.patch.specs.Patch.{commitSet, inlined, rebuilt, rebuilds}
-use Rattle.patch.proofs.Parts.{Which, is-true, is-false, which, lost, all-each, all-two}
-use Rattle.patch.proofs.Definitions.{stands, not-rebuilt}
+use Rattle.lower.proofs.Somes.{none-all}
+use Rattle.patch.proofs.Parts.{Which, is-true, is-false, which, clash, all-each, all-two}
+use Rattle.patch.proofs.Definitions.{stands}
 use Rattle.reach.specs.Alive.{orAll}
 use Rattle.reach.specs.Reach.{fromRoot, fromTerm, fromDefinition, reachBy, IsReach}
 use Rattle.reach.specs.Steps.{Held, rhsAt, committedAt, maskAt, pullOperands, taken, reachFrom, Usable}
 use Rattle.reach.proofs.Joins.{or-all-lt, misses-all, misses-each}
-use Rattle.reach.proofs.Meeting.{roots-by, rows-by, commits-by, roots-of, inlined-defines}
+use Rattle.reach.proofs.Meeting.{roots-by, rows-by, commits-by, roots-of}
 use Rattle.reach.proofs.Masking.{Holds, committed-number, decided-of}
 use Rattle.reach.proofs.Taking.{operands-length, operands-words, operands-misses, from-words, from-misses}
 
@@ -86,7 +87,7 @@ module _ (h : Held) (p : System) (m : ℕ) (once : Once (p .linears)) (small : A
   lones : All (All Lone) (rebuilds p c)
   lones = roots-of p c (single .uses-single)
 
-  module _ (w : ℕ) (rhs : Operand) (e : D w ≡ some rhs) where
+  module _ (w : ℕ) (e : defines (p .linears) w ≡ true) where
     -- a term that names w has one shift
     root-is : (t : Term) → Lone t → fromRoot w t ≡ fromTerm ones w t
     root-is t k = go (eqb (t .wire) w) refl
@@ -94,7 +95,7 @@ module _ (h : Held) (p : System) (m : ℕ) (once : Once (p .linears)) (small : A
         go : (b : Bool) → eqb (t .wire) w ≡ b → cond b (pulled (shiftAt (t .inner)) (pulled (shiftAt (t .outer)) ones)) 0 ≡ cond b (pulled (shiftAt (t .inner)) ones) 0
         go true q =
             ap (pulled (shiftAt (t .inner)))
-            (identity-back (shiftAt (t .outer)) (eqb-true (shiftAt (t .outer) .amount) 0 (k (ap (defines (p .linears)) (eqb-true (t .wire) w q) ∙ inlined-defines p c w rhs e))))
+            (identity-back (shiftAt (t .outer)) (eqb-true (shiftAt (t .outer) .amount) 0 (k (ap (defines (p .linears)) (eqb-true (t .wire) w q) ∙ e))))
         go false q = refl
 
     -- the sum is a word
@@ -122,10 +123,11 @@ module _ (h : Held) (p : System) (m : ℕ) (once : Once (p .linears)) (small : A
 
       -- a constraint that is not rebuilt does not name w
       not-named : (a : Row) → rebuilt (p .linears) a ≡ false → All (All P) a
-      not-named a k = all-each (λ u v. all-each one v) (not-rebuilt p c a k)
+      unfolding rebuilt
+      not-named a k = all-each (λ u v. all-each one (none-all _ u v)) (none-all _ a k)
         where
-          one : (t : Term) → D (t .wire) ≡ none → P t
-          one t q = on-cond (λ (y : ℕ). bitAnd x y ≡ 0) (eqb (t .wire) w) (λ z. absurd (lost e (ap D (sym (eqb-true (t .wire) w z)) ∙ q))) (λ z. and-zero-r x)
+          one : (t : Term) → defines (p .linears) (t .wire) ≡ false → P t
+          one t q = on-cond (λ (y : ℕ). bitAnd x y ≡ 0) (eqb (t .wire) w) (λ z. absurd (clash e (ap (defines (p .linears)) (sym (eqb-true (t .wire) w z)) ∙ q))) (λ z. and-zero-r x)
 
       row-terms : All (All P) (rowOperands p) → All (λ (g : ℕ). All P (operandOf (h .old) (h .new) g)) hs
       row-terms k = all-unmap (All P) (operandOf (h .old) (h .new)) hs (subst (All (All P)) rows k)
@@ -194,4 +196,4 @@ module _ (h : Held) (p : System) (m : ℕ) (once : Once (p .linears)) (small : A
 
   -- THE THEOREM. The store ends with the masks of what is met.
   pub masks-reach : IsReach p c r
-  masks-reach = record { words = final-words; sums = λ w rhs e. same-by (r w) (reachBy p c r w) (final-words w) (sum-lt w rhs e) (summed w rhs e) (sums-up w rhs e) }
+  masks-reach = record { words = final-words; sums = λ w e. same-by (r w) (reachBy p c r w) (final-words w) (sum-lt w e) (summed w e) (sums-up w e) }

@@ -3,8 +3,8 @@ use mathlib.Core.Path.{_≡_, refl, sym, ap, _∙_, subst}
 use Prim.Native.Nat.{ℕ, _+_, _*_, _≤_, _<_}
 use native.Mathlib.Omega.{arith}
 use mathlib.Core.List.{List, [], _∷_, _++_, List·Memᴰ}
-use lib.ListN.{length, getD, set, take, replicate, length-replicate}
-use lib.Seq.{getD-set-same, getD-set-other}
+use lib.ListN.{length, getD, set, take, replicate, length-set, length-replicate}
+use lib.Seq.{getD-set-same, getD-set-other, drop-set-lt}
 use native.Mathlib.Decide.{ℕ-discrete}
 use Rattle.operand.specs.Numbers.{operandOf}
 use Rattle.alive.specs.Masks.{ones}
@@ -32,7 +32,7 @@ use Rattle.patch.specs.Patch.{commitSet, inlined}
 use Rattle.patch.proofs.Parts.{all-each, all-two, all-members}
 use Rattle.reach.specs.Alive.{IsAlive, AliveIn}
 use Rattle.reach.specs.Reach.{IsReach, ReachIn}
-use Rattle.reach.specs.Steps.{Held, held, Gathered, Order, Pullable, rhsAt, maskAt, aliveFrom, pullOperands, reachFrom, Usable, Able}
+use Rattle.reach.specs.Steps.{Held, held, Gathered, Filled, Order, Pullable, rhsAt, maskAt, aliveFrom, pullOperands, reachFrom, Usable, Able}
 use Rattle.reach.proofs.Writing.{alive-only}
 use Rattle.reach.proofs.Masking.{Holds, getD-any, alive-length, masks-alive}
 use Rattle.reach.proofs.Sums.{masks-reach}
@@ -52,6 +52,9 @@ gather-next i dsts masks out f b = record {
     | no q ↦ getD-set-other out i d (maskAt masks (getD dsts i 0)) 0 q ∙ f .gathered d (omega arith)
   ];
 }
+
+pub fill-next : (n i a : ℕ) (before out : List ℕ) → Filled n before out → i < n → Filled n before (set out i a)
+fill-next n i a before out f b = record { long = length-set out i a ∙ f .long; kept = drop-set-lt n out i a b ∙ f .kept }
 
 module _ (z : Sizes) (s : Stores) (e : memoryFault 8192 z s ≡ 0) (decisions : List ℕ) where
   abbrev p : System

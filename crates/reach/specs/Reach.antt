@@ -5,7 +5,7 @@
 --   fromTerm m w u       the bits of w that u, a term of a definition of which the bits m get in, takes in
 --   fromDefinition r w   the bits of w that a definition takes in, none where it is committed
 --   reachBy r w          all of them, from the masks r of the definitions
---   IsReach r            every mask is a word, and that of an uncommitted definition is what the occurrences of its wire say
+--   IsReach r            every mask is a word, and that of a definition is what the occurrences of its wire say, committed or not
 --   ReachIn n dsts out   the masks of n definitions stand in the store `out`
 --
 -- No order of the definitions is named.
@@ -13,18 +13,17 @@
 -- Assumes nothing.
 use mathlib.Core.Path.{_≡_}
 use Prim.Native.Nat.{ℕ, _^_, _<_}
-use mathlib.Core.Bool.{Bool, cond}
-use mathlib.Core.Option.{some}
+use mathlib.Core.Bool.{Bool, true, cond}
 use lib.Dec.{eqb}
 use mathlib.Core.List.{List}
 use lib.ListN.{getD}
 use lib.Bits.{bitOr}
 use Rattle.shift.specs.Shifts.{shiftAt}
-use Rattle.operand.specs.Numbers.{Term, Operand}
+use Rattle.operand.specs.Numbers.{Term}
 use Rattle.alive.specs.Masks.{ones, pulled}
 use Rattle.lower.specs.Lists.{joined}
-use Rattle.lower.specs.Model.{Definition, System}
-use Rattle.patch.specs.Patch.{inlined, rebuilds}
+use Rattle.lower.specs.Model.{Definition, System, defines}
+use Rattle.patch.specs.Patch.{rebuilds}
 use Rattle.reach.specs.Alive.{orAll}
 
 abbrev pub fromRoot : ℕ → Term → ℕ
@@ -44,7 +43,7 @@ module _ (p : System) (c : ℕ → Bool) where
 
   pub record IsReach (r : ℕ → ℕ) : Type 0 where
     pub words : (w : ℕ) → r w < 2 ^ 64
-    pub sums : (w : ℕ) (rhs : Operand) → inlined p c w ≡ some rhs → r w ≡ reachBy r w
+    pub sums : (w : ℕ) → defines (p .linears) w ≡ true → r w ≡ reachBy r w
 
   -- the masks of the definitions, n of them with these destinations, stand in a store
   pub record ReachIn (n : ℕ) (dsts out : List ℕ) : Type 0 where

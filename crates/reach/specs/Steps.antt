@@ -9,6 +9,7 @@
 --   taken h d l         the bits of the definition d that get in: all, where it is committed
 --   reachStep h d l     the store l after the definition d; reachFrom, after the definitions ds, one after the other
 --   Gathered n dsts masks out   the masks of the wires of n definitions stand in the store `out`, one number a definition
+--   Filled n before out         of the store `before` there is left `out`: at most its first n numbers are written
 --   Order rhs table n ds        an order of n definitions, each before those that it names
 --   Pullable .. hs n            the first n of the operands hs end within their stores, and their terms are usable
 --   Usable n t          the term t names one of n wires, and its shift is valid
@@ -20,7 +21,7 @@ use Prim.Native.Nat.{ℕ, _≤_, _<_}
 use mathlib.Core.Bool.{Bool, true, cond}
 use mathlib.Core.List.{List, [], _∷_, List·Memᴰ}
 use lib.Dec.{eqb}
-use lib.ListN.{length, getD, set, take}
+use lib.ListN.{length, getD, set, take, drop}
 use lib.Bits.{bitOr}
 use Rattle.shift.specs.Shifts.{validNumber, shiftAt}
 use Rattle.operand.specs.Numbers.{Term, Operand, operandOf}
@@ -98,6 +99,11 @@ reachFrom h (d ∷ ds) l = reachFrom h ds (reachStep h d l)
 -- the masks of the wires of n definitions, one number a definition
 pub record Gathered (n : ℕ) (dsts masks out : List ℕ) : Type 0 where
   pub gathered : (d : ℕ) → d < n → getD out d 0 ≡ maskAt masks (getD dsts d 0)
+
+-- the rest is kept
+pub record Filled (n : ℕ) (before out : List ℕ) : Type 0 where
+  pub long : length out ≡ length before
+  pub kept : drop n out ≡ drop n before
 
 -- an order of all n definitions, each before those that it names
 pub record Order (rhs : ℕ → Operand) (table : List ℕ) (n : ℕ) (ds : List ℕ) : Type 0 where

@@ -30,7 +30,7 @@ same-length c = search needs
 
 returns : tie.Need-returns
 returns c = let s = c .before .before .before .before .before .before .before .before .before .before .before .before .before .before .before .before .before .before .before in let st : Stores = stores (s .args .old .now) (s .args .new .now) (s .args .ands .now) (s .args .imuls .now) (s .args .bmuls .now) (s .args .zeros .now) (s .args .dsts .now) (s .args .rhss .now) in
-    alive-answer (s .args .z) st (s .pre .0) (s .args .decisions .now) (s .pre .1 .0) (drop (s .args .left) (s .args .order .now)) (s .pre .1 .1 .0) _ (gather-same (c .before .before .before .before .before .before .mask-from .ensures) (c .before .before .gather .ensures))
+    (alive-answer (s .args .z) st (s .pre .0) (s .args .decisions .now) (s .pre .1 .0) (drop (s .args .left) (s .args .order .now)) (s .pre .1 .1 .0) _ (gather-same (c .before .before .before .before .before .before .mask-from .ensures) (c .before .before .gather .ensures .0)), c .before .before .gather .ensures .1)
 
 pub alive-masks-spec : {M : Type 1} → statement M
 alive-masks-spec =

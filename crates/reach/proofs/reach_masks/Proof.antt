@@ -43,9 +43,11 @@ same-length : tie.Need-same-length
 same-length c = search needs
 
 returns : tie.Need-returns
-returns c = let s = c .before .before .before .before .before .before .before .before .before .before .before .before .before .before .before .before .before .before .before .before .before .before in let st : Stores = stores (s .args .old .now) (s .args .new .now) (s .args .ands .now) (s .args .imuls .now) (s .args .bmuls .now) (s .args .zeros .now) (s .args .dsts .now) (s .args .rhss .now) in let h : Held = held (s .args .old .now) (s .args .new .now) (s .args .dsts .now) (s .args .rhss .now) (s .args .decisions .now) in
-    reach-answer (s .args .z) st (s .pre .0) (s .args .decisions .now) (s .pre .1 .0) (drop (s .args .left) (s .args .order .now)) (s .pre .1 .1 .1 .0) (s .pre .1 .1 .0) _
-    (gather-same (c .before .before .before .before .before .before .reach-from .ensures ∙ ap (reachFrom h (drop (s .args .left) (s .args .order .now))) (c .before .before .before .before .before .before .before .before .before .pull-rows .ensures)) (c .before .before .gather .ensures))
+returns c = let s = c .before .before .before .before .before .before .before .before .before .before .before .before .before .before .before .before .before .before .before .before .before .before in let st : Stores = stores (s .args .old .now) (s .args .new .now) (s .args .ands .now) (s .args .imuls .now) (s .args .bmuls .now) (s .args .zeros .now) (s .args .dsts .now) (s .args .rhss .now) in let h : Held = held (s .args .old .now) (s .args .new .now) (s .args .dsts .now) (s .args .rhss .now) (s .args .decisions .now) in (
+  reach-answer (s .args .z) st (s .pre .0) (s .args .decisions .now) (s .pre .1 .0) (drop (s .args .left) (s .args .order .now)) (s .pre .1 .1 .1 .0) (s .pre .1 .1 .0) _
+      (gather-same (c .before .before .before .before .before .before .reach-from .ensures ∙ ap (reachFrom h (drop (s .args .left) (s .args .order .now))) (c .before .before .before .before .before .before .before .before .before .pull-rows .ensures)) (c .before .before .gather .ensures .0)),
+  c .before .before .gather .ensures .1,
+)
 
 pub reach-masks-spec : {M : Type 1} → statement M
 reach-masks-spec =
