@@ -1,2 +1,4 @@
 pub mod Models
 pub mod Stays
+pub mod System
+pub mod Once
