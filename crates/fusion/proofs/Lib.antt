@@ -1,1 +1,5 @@
+pub mod Models
+pub mod Stays
+pub mod System
+pub mod Once
 pub mod Running
