@@ -11,3 +11,4 @@ pub mod Unique
 pub mod Results
 pub mod Handles
 pub mod Spelled
+pub mod Builds
