@@ -12,3 +12,4 @@ pub mod Results
 pub mod Handles
 pub mod Spelled
 pub mod Built
+pub mod Builds

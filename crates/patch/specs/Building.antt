@@ -8,14 +8,18 @@
 --   rowsIn             the operands of the rows that name a defined wire, by the table
 --   committedAt        the right side of a node that is a committed definition; commitsIn, of the wires w, w + 1, .., n of them
 --   operandsIn         all operands that are rebuilt, in their order
+--   Ready s n          right sides can be read, and no chain of definitions has more than n links
+--   RowsThere          n rows of k operand numbers are there, each Rooted; CommitsThere, so the right side of every node
+--   Room               the terms so far stand in the store, whose places have numbers
+--   Buildable          all of this: what is asked where a whole system is rebuilt
 --
 -- Assumes nothing.
 use mathlib.Core.Path.{_≡_}
-use Prim.Native.Nat.{ℕ, zero, suc, _-_}
+use Prim.Native.Nat.{ℕ, zero, suc, _-_, _*_, _≤_, _<_}
 use mathlib.Core.Bool.{true, cond}
 use mathlib.Core.List.{List, [], _∷_, _++_}
 use lib.Dec.{ltb, eqb}
-use lib.ListN.{length, getD, set}
+use lib.ListN.{length, take, getD, set}
 use Rattle.operand.specs.Numbers.{Term, Operand, operandOf, operandNumber}
 use Rattle.lower.specs.declared.Sizes.{Sizes}
 use Rattle.lower.specs.Lists.{All, keep, joined}
@@ -24,7 +28,8 @@ use Rattle.lower.specs.Stores.{Stands, rowsOf}
 use Rattle.legraph.specs.Walked.{rhsIn}
 use Rattle.patch.specs.declared.Progress.{Progress}
 use Rattle.patch.specs.Steps.{Written, writeTerms}
-use Rattle.patch.specs.Spelling.{Source, spelt, rowNames}
+use Rattle.patch.specs.Expansion.{Within}
+use Rattle.patch.specs.Spelling.{Source, inPlace, spelt, rowNames, Readable}
 
 pub record Built : Type 0 where
   pub wrote : Written
@@ -54,6 +59,10 @@ buildAll go (o ∷ os) b = buildAll go os (buildOne go o b)
 abbrev pub Rooted : List ℕ → List ℕ → ℕ → Type 0
 Rooted old new h = Stands old new h × All ShiftsOf (operandOf old new h)
 
+-- the operands of a row, if it names a defined wire
+abbrev pub rowIn : Source → List Operand → List Operand
+rowIn s r = cond (rowNames (s .table) r) r []
+
 -- n rows of k operand numbers each
 unfoldable pub rowsIn : Source → ℕ → ℕ → List ℕ → List Operand
 rowsIn s k n hs = joined (keep (rowNames (s .table)) (rowsOf (operandOf (s .old) (s .new)) k n hs))
@@ -71,3 +80,26 @@ unfoldable pub operandsIn : Source → Sizes → List ℕ → List ℕ → List 
 operandsIn s z ands imuls bmuls zeros =
     rowsIn s 3 (z .ands) ands
     ++ (rowsIn s 4 (z .imuls) imuls ++ (rowsIn s 6 (z .bmuls) bmuls ++ (rowsIn s 1 (z .zeros) zeros ++ commitsIn s 0 (z .wires))))
+
+abbrev pub Ready : Source → ℕ → Type 0
+Ready s n = Readable s × ((w : ℕ) → Within (inPlace s) n w)
+
+abbrev pub RowsThere : List ℕ → List ℕ → ℕ → ℕ → List ℕ → Type 0
+RowsThere old new k n hs = (k * n ≤ length hs) × All (Rooted old new) (take (k * n) hs)
+
+abbrev pub CommitsThere : Source → Type 0
+CommitsThere s = (w d : ℕ) → getD (s .table) w 0 ≡ suc d → Rooted (s .old) (s .new) (getD (s .rhss) d 0)
+
+-- the start of an operand has 31 bits
+abbrev pub Room : List ℕ → Progress → Type 0
+Room out b = (b .cursor .count ≤ length out) × (length out < 2147483648)
+
+pub record Buildable (s : Source) (z : Sizes) (ands imuls bmuls zeros : List ℕ) : Type 0 where
+  pub ready : Ready s (z .linears)
+  pub ands-there : RowsThere (s .old) (s .new) 3 (z .ands) ands
+  pub imuls-there : RowsThere (s .old) (s .new) 4 (z .imuls) imuls
+  pub bmuls-there : RowsThere (s .old) (s .new) 6 (z .bmuls) bmuls
+  pub zeros-there : RowsThere (s .old) (s .new) 1 (z .zeros) zeros
+  pub commits-there : CommitsThere s
+  -- a wire has 16 bits
+  pub wires-few : z .wires ≤ 65536

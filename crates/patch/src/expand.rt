@@ -59,7 +59,7 @@ fn is_dead(alive: &[u64], d: LinDefId, inner: Shift, outer: Shift) -> bool
 }
 
 // A decision of 0 is Commit.
-fn is_committed(decisions: &[u64], d: LinDefId) -> bool
+pub fn is_committed(decisions: &[u64], d: LinDefId) -> bool
     ensures { λ r. ⌜ r ≡ eqb (getD (now (decisions .entry)) (d .0) 0) 0 ⌝ }
 {
     let i = d.0 as usize;

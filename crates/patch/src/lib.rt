@@ -1,4 +1,5 @@
 // Expansion and the patched lists. Follows frontend/src/pass/fusion/patch.rs.
+pub mod build;
 pub mod expand;
 pub mod rebuild;
 

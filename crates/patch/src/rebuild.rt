@@ -100,7 +100,7 @@ fn expand_root<'a>(
 }
 
 // An operand of a constraint, or the right side of a committed definition.
-fn process_operand<'a>(
+pub fn process_operand<'a>(
     old: &'a [u64],
     new: &'a [u64],
     rhss: &[u64],
