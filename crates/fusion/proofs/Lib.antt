@@ -2,3 +2,4 @@ pub mod Models
 pub mod Stays
 pub mod System
 pub mod Once
+pub mod Rebuilding

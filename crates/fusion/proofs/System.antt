@@ -55,7 +55,7 @@ sets-front xs l h =
 take-front : (xs l : List ℕ) (n : ℕ) → length xs ≡ n → n ≤ length l → take n (sets l 0 xs) ≡ xs
 take-front xs l n e h = ap (take n) (sets-front xs l (omega (arith, e, h))) ∙ take-at xs (drop (length xs) l) n e
 
-parted-length : {A : Type 0} (q : List A → Bool) (rs : List (List A)) → length (joined (keep (λ r. not (q r)) rs)) + length (joined (keep q rs)) ≡ length (joined rs)
+pub parted-length : {A : Type 0} (q : List A → Bool) (rs : List (List A)) → length (joined (keep (λ r. not (q r)) rs)) + length (joined (keep q rs)) ≡ length (joined rs)
 parted-length q [] = refl
 parted-length {A} q (r ∷ rs) = step (q r) (parted-length q rs)
   where
