@@ -3,3 +3,4 @@ pub mod Stays
 pub mod System
 pub mod Once
 pub mod Rebuilding
+pub mod Closing
