@@ -3,3 +3,5 @@ pub mod Stays
 pub mod System
 pub mod Once
 pub mod Running
+pub mod Rebuilding
+pub mod Closing

@@ -45,17 +45,17 @@ map-drop f (suc n) [] = refl
 map-drop f (suc n) (x ∷ l) = map-drop f n l
 
 -- what is written from the front on stands before what was there
-sets-front : (xs l : List ℕ) → length xs ≤ length l → sets l 0 xs ≡ xs ++ drop (length xs) l
+pub sets-front : (xs l : List ℕ) → length xs ≤ length l → sets l 0 xs ≡ xs ++ drop (length xs) l
 sets-front xs l h =
     let u : 0 + length xs ≤ length l = omega (arith, h) in
     let e : 0 + length xs ≡ length xs = omega arith in
     sets-eq xs l 0 u ∙ ap (λ (i : ℕ). xs ++ drop i l) e
 
 -- and its front is just that
-take-front : (xs l : List ℕ) (n : ℕ) → length xs ≡ n → n ≤ length l → take n (sets l 0 xs) ≡ xs
+pub take-front : (xs l : List ℕ) (n : ℕ) → length xs ≡ n → n ≤ length l → take n (sets l 0 xs) ≡ xs
 take-front xs l n e h = ap (take n) (sets-front xs l (omega (arith, e, h))) ∙ take-at xs (drop (length xs) l) n e
 
-parted-length : {A : Type 0} (q : List A → Bool) (rs : List (List A)) → length (joined (keep (λ r. not (q r)) rs)) + length (joined (keep q rs)) ≡ length (joined rs)
+pub parted-length : {A : Type 0} (q : List A → Bool) (rs : List (List A)) → length (joined (keep (λ r. not (q r)) rs)) + length (joined (keep q rs)) ≡ length (joined rs)
 parted-length q [] = refl
 parted-length {A} q (r ∷ rs) = step (q r) (parted-length q rs)
   where
@@ -64,7 +64,7 @@ parted-length {A} q (r ∷ rs) = step (q r) (parted-length q rs)
     step true h = omega (arith, h, length-append r (joined (keep q rs)), length-append r (joined rs))
     step false h = omega (arith, h, length-append r (joined (keep (λ r. not (q r)) rs)), length-append r (joined rs))
 
-kept-length : (q : Row → Bool) (f : ℕ → Operand) (rs : List (List ℕ)) → length (joined (keep q (map (map f) rs))) ≡ length (joined (keep (λ (r : List ℕ). q (map f r)) rs))
+pub kept-length : (q : Row → Bool) (f : ℕ → Operand) (rs : List (List ℕ)) → length (joined (keep q (map (map f) rs))) ≡ length (joined (keep (λ (r : List ℕ). q (map f r)) rs))
 kept-length q f [] = refl
 kept-length q f (r ∷ rs) = step (q (map f r)) (kept-length q f rs)
   where
@@ -74,7 +74,7 @@ kept-length q f (r ∷ rs) = step (q (map f r)) (kept-length q f rs)
         omega (arith, h, length-append (map f r) (joined (keep q (map (map f) rs))), length-append r (joined (keep (λ (r : List ℕ). q (map f r)) rs)), length-map r f)
     step false h = h
 
-by-length : (q : ℕ → Bool) (ds hs : List ℕ) → length ds ≡ length hs → length (keepBy q ds hs) ≡ length (keep q ds)
+pub by-length : (q : ℕ → Bool) (ds hs : List ℕ) → length ds ≡ length hs → length (keepBy q ds hs) ≡ length (keep q ds)
 unfolding keepBy
 by-length q [] hs e = refl
 by-length q (d ∷ ds) [] e = absurd (omega arith)
