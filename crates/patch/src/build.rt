@@ -28,7 +28,7 @@ fn handle(start: usize, end: usize) -> u64
     })
 }
 
-// Where the list is full nothing is done: the place is past its end from then on.
+// One operand more, and its number. Where the list is full nothing is done.
 fn build_one<'a>(
     old: &'a [u64],
     new: &'a [u64],
