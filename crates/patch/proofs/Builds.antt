@@ -17,6 +17,7 @@ use Rattle.operand.specs.declared.PushInner.the-variants.{Seq, Zero, OverBudget
 use Rattle.operand.specs.Push.{pushValid}
 use Rattle.operand.specs.Numbers.{Term, Operand, operandOf, termNumber}
 use Rattle.lower.specs.Lists.{All, keep, joined}
+use Rattle.lower.specs.declared.Sizes.{Sizes}
 use Rattle.lower.specs.Stores.{rowsOf}
 use Rattle.lower.proofs.Firsts.{drop-step}
 use Rattle.lower.proofs.Laws.{all-left, all-right}
@@ -24,7 +25,7 @@ use Rattle.legraph.specs.Walked.{rhsIn}
 use Rattle.patch.specs.declared.Cursor.{Cursor}
 use Rattle.patch.specs.Steps.{Written, wrote, filled, put, writeDown, writeTerms}
 use Rattle.patch.specs.Spelling.{Source, inPlace, dead, spelt, spellUnder, spellBy, spell, rowNames}
-use Rattle.patch.specs.Building.{Built, built, handle, buildOne, buildAll, rowIn, rowsIn, committedAt, commitsIn}
+use Rattle.patch.specs.Building.{Built, built, handle, buildOne, buildAll, rowIn, rowsIn, committedAt, commitsIn, rootsIn, operandsIn}
 
 -- ---- writing never lowers the count
 
@@ -90,18 +91,18 @@ build-room go o b m v h e d =
 
 -- ---- those that are left
 
-pub all-none : (go : Term → Written → Written) (b : Built) → buildAll go [] b ≡ b
+pub build-none : (go : Term → Written → Written) (b : Built) → buildAll go [] b ≡ b
 unfolding buildAll
-all-none go b = refl
+build-none go b = refl
 
-pub all-one : (go : Term → Written → Written) (o : Operand) (b : Built) → buildAll go (o ∷ []) b ≡ buildOne go o b
+pub build-single : (go : Term → Written → Written) (o : Operand) (b : Built) → buildAll go (o ∷ []) b ≡ buildOne go o b
 unfolding buildAll
-all-one go o b = refl
+build-single go o b = refl
 
-pub all-both : (go : Term → Written → Written) (a c : List Operand) (b : Built) → buildAll go (a ++ c) b ≡ buildAll go c (buildAll go a b)
+pub build-both : (go : Term → Written → Written) (a c : List Operand) (b : Built) → buildAll go (a ++ c) b ≡ buildAll go c (buildAll go a b)
 unfolding buildAll
-all-both go [] c b = refl
-all-both go (o ∷ a) c b = all-both go a c (buildOne go o b)
+build-both go [] c b = refl
+build-both go (o ∷ a) c b = build-both go a c (buildOne go o b)
 
 pub row-step : (go : Term → Written → Written) (f : ℕ → Operand) (row : List ℕ) (k : ℕ) (b : Built) → k < length row
     → buildAll go (map f (drop k row)) b ≡ buildAll go (map f (drop (k + 1) row)) (buildOne go (f (getD row k 0)) b)
@@ -136,7 +137,7 @@ rows-more s k n hs = go (rowNames (s .table) (map (operandOf (s .old) (s .new)) 
 
 -- n rows are left, from the place i on
 pub rows-end : (go : Term → Written → Written) (s : Source) (k n i : ℕ) (hs : List ℕ) (b : Built) → n ≤ 0 → buildAll go (rowsIn s k n (drop i hs)) b ≡ b
-rows-end go s k n i hs b h = let e : n ≡ 0 = omega arith in rw (e, rows-none s k (drop i hs)) (all-none go b)
+rows-end go s k n i hs b h = let e : n ≡ 0 = omega arith in rw (e, rows-none s k (drop i hs)) (build-none go b)
 
 module _ (k n i : ℕ) (hs : List ℕ) (some-left : 0 < n) where
   one-more : n ≡ suc (n - 1)
@@ -166,7 +167,7 @@ module _ (k n i : ℕ) (hs : List ℕ) (some-left : 0 < n) where
   rows-step go s b =
       ap (λ (j : ℕ). buildAll go (rowsIn s k j (drop i hs)) b) one-more
       ∙ ap (λ (os : List Operand). buildAll go os b) (rows-more s k (n - 1) (drop i hs))
-      ∙ all-both go (rowIn s (map (operandOf (s .old) (s .new)) (take k (drop i hs)))) (rowsIn s k (n - 1) (drop k (drop i hs))) b
+      ∙ build-both go (rowIn s (map (operandOf (s .old) (s .new)) (take k (drop i hs)))) (rowsIn s k (n - 1) (drop k (drop i hs))) b
       ∙ ap (λ (l : List ℕ). buildAll go (rowsIn s k (n - 1) l) (buildAll go (rowIn s (map (operandOf (s .old) (s .new)) (take k (drop i hs)))) b)) next
       ∙ ap (λ (l : List ℕ). buildAll go (rowsIn s k (n - 1) (drop (i + k) hs)) (buildAll go (rowIn s (map (operandOf (s .old) (s .new)) l)) b)) (sym part)
 
@@ -184,7 +185,7 @@ node-taken s n d e q = rw (e, q)
 module _ (go : Term → Written → Written) (s : Source) (w n : ℕ) (b : Built) where
   pub commits-end : n ≤ w → buildAll go (commitsIn s w (n - w)) b ≡ b
   unfolding commitsIn
-  commits-end h = let e : n - w ≡ 0 = omega arith in rw e (all-none go b)
+  commits-end h = let e : n - w ≡ 0 = omega arith in rw e (build-none go b)
 
   pub commits-step : w < n → buildAll go (commitsIn s w (n - w)) b ≡ buildAll go (commitsIn s (w + 1) (n - (w + 1))) (buildAll go (committedAt s (getD (s .table) w 0)) b)
   unfolding commitsIn
@@ -192,5 +193,32 @@ module _ (go : Term → Written → Written) (s : Source) (w n : ℕ) (b : Built
       let e : n - w ≡ suc (n - (w + 1)) = omega arith in
       let f : suc w ≡ w + 1 = omega arith in
       ap (λ (j : ℕ). buildAll go (commitsIn s w j) b) e
-      ∙ all-both go (committedAt s (getD (s .table) w 0)) (commitsIn s (suc w) (n - (w + 1))) b
+      ∙ build-both go (committedAt s (getD (s .table) w 0)) (commitsIn s (suc w) (n - (w + 1))) b
       ∙ ap (λ (j : ℕ). buildAll go (commitsIn s j (n - (w + 1))) (buildAll go (committedAt s (getD (s .table) w 0)) b)) f
+
+-- ---- all of them
+
+module _ (go : Term → Written → Written) (s : Source) (z : Sizes) (ands imuls bmuls zeros : List ℕ) (b : Built) where
+  pub roots-are : buildAll go (rootsIn s z ands imuls bmuls zeros) b
+      ≡ buildAll go (rowsIn s 1 (z .zeros) zeros) (buildAll go (rowsIn s 6 (z .bmuls) bmuls) (buildAll go (rowsIn s 4 (z .imuls) imuls) (buildAll go (rowsIn s 3 (z .ands) ands) b)))
+  unfolding rootsIn
+  roots-are =
+      let a : List Operand = rowsIn s 3 (z .ands) ands in
+      let i : List Operand = rowsIn s 4 (z .imuls) imuls in
+      let m : List Operand = rowsIn s 6 (z .bmuls) bmuls in
+      let o : List Operand = rowsIn s 1 (z .zeros) zeros in
+      build-both go a (i ++ (m ++ o)) b ∙ build-both go i (m ++ o) (buildAll go a b) ∙ build-both go m o (buildAll go i (buildAll go a b))
+
+  pub operands-are : buildAll go (operandsIn s z ands imuls bmuls zeros) b ≡ buildAll go (commitsIn s 0 (z .wires)) (buildAll go (rootsIn s z ands imuls bmuls zeros) b)
+  unfolding operandsIn
+  operands-are =
+      let a : List Operand = rowsIn s 3 (z .ands) ands in
+      let i : List Operand = rowsIn s 4 (z .imuls) imuls in
+      let m : List Operand = rowsIn s 6 (z .bmuls) bmuls in
+      let o : List Operand = rowsIn s 1 (z .zeros) zeros in
+      let d : List Operand = commitsIn s 0 (z .wires) in
+      build-both go a (i ++ (m ++ (o ++ d))) b
+      ∙ build-both go i (m ++ (o ++ d)) (buildAll go a b)
+      ∙ build-both go m (o ++ d) (buildAll go i (buildAll go a b))
+      ∙ build-both go o d (buildAll go m (buildAll go i (buildAll go a b)))
+      ∙ ap (buildAll go d) (sym roots-are)

@@ -7,7 +7,7 @@
 --   Rooted             what is asked of an operand that is rebuilt: it stands in its store, and its shifts are valid
 --   rowsIn             the operands of the rows that name a defined wire, by the table
 --   committedAt        the right side of a node that is a committed definition; commitsIn, of the wires w, w + 1, .., n of them
---   operandsIn         all operands that are rebuilt, in their order
+--   rootsIn            the operands of the constraints that are rebuilt; operandsIn, all operands that are rebuilt, in their order
 --   Ready s n          right sides can be read, and no chain of definitions has more than n links
 --   RowsThere          n rows of k operand numbers are there, each Rooted; CommitsThere, so the right side of every node
 --   Room               the terms so far stand in the store, whose places have numbers
@@ -75,6 +75,11 @@ committedAt s (suc d) = cond (eqb (getD (s .decisions) d 0) 0) (rhsIn (s .old) (
 unfoldable pub commitsIn : Source → ℕ → ℕ → List Operand
 commitsIn s w zero = []
 commitsIn s w (suc n) = committedAt s (getD (s .table) w 0) ++ commitsIn s (suc w) n
+
+-- the operands of the constraints
+unfoldable pub rootsIn : Source → Sizes → List ℕ → List ℕ → List ℕ → List ℕ → List Operand
+rootsIn s z ands imuls bmuls zeros =
+    rowsIn s 3 (z .ands) ands ++ (rowsIn s 4 (z .imuls) imuls ++ (rowsIn s 6 (z .bmuls) bmuls ++ rowsIn s 1 (z .zeros) zeros))
 
 unfoldable pub operandsIn : Source → Sizes → List ℕ → List ℕ → List ℕ → List ℕ → List Operand
 operandsIn s z ands imuls bmuls zeros =

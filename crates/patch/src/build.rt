@@ -1,14 +1,14 @@
 // All operands that are rebuilt, one after the other: the constraints that name a defined wire, then the committed definitions.
 ghost use mathlib.Core.Path.{_≡_};
 ghost use mathlib.Core.Bool.{false};
-ghost use mathlib.Core.List.{[], _++_, map};
+ghost use mathlib.Core.List.{[], map};
 ghost use Prim.Native.Nat.{_≤_, _<_};
 ghost use lib.ListN.{length, getD};
 ghost use Rattle.operand.specs.Numbers.{operandOf};
 ghost use Rattle.lower.specs.Lists.{All};
 ghost use Rattle.patch.specs.Steps.{wrote};
 ghost use Rattle.patch.specs.Spelling.{source, spell};
-ghost use Rattle.patch.specs.Building.{built, builtBy, handle, buildOne, buildAll, Rooted, rowIn, rowsIn, committedAt, commitsIn, operandsIn, Ready, RowsThere, CommitsThere, Room, Buildable};
+ghost use Rattle.patch.specs.Building.{built, builtBy, handle, buildOne, buildAll, Rooted, rowIn, rowsIn, committedAt, commitsIn, rootsIn, operandsIn, Ready, RowsThere, CommitsThere, Room, Buildable};
 use crate::Cursor;
 use crate::Progress;
 use legraph::Node;
@@ -28,7 +28,7 @@ fn handle(start: usize, end: usize) -> u64
     })
 }
 
-// Where the list is full nothing is done: the place is past its end from then on.
+// One operand more, and its number. Where the list is full nothing is done.
 fn build_one<'a>(
     old: &'a [u64],
     new: &'a [u64],
@@ -266,4 +266,152 @@ fn build_commits<'a>(
         w += 1;
     }
     cur
+}
+
+// And, Imul, Bmul and Zero, in that order.
+fn build_root_patches<'a>(
+    old: &'a [u64],
+    new: &'a [u64],
+    ands: &[u64],
+    imuls: &[u64],
+    bmuls: &[u64],
+    zeros: &[u64],
+    rhss: &[u64],
+    z: Sizes,
+    table: &[u16],
+    decisions: &[u64],
+    alive: &[u64],
+    out: &mut [u64],
+    list: &mut [u64],
+    b: Progress,
+) -> Progress
+    requires { ⌜ Buildable (source (now old) (now new) (now rhss) (now table) (now decisions) (now alive)) z (now ands) (now imuls) (now bmuls) (now zeros) ⌝ }
+    requires { ⌜ Room (now out) b ⌝ }
+    ensures { λ r. ⌜ (builtBy (now (out .exit)) (now (list .exit)) r ≡ buildAll (spell (source (now (old .entry)) (now (new .entry)) (now (rhss .entry)) (now (table .entry)) (now (decisions .entry)) (now (alive .entry))) (z .linears)) (rootsIn (source (now (old .entry)) (now (new .entry)) (now (rhss .entry)) (now (table .entry)) (now (decisions .entry)) (now (alive .entry))) z (now (ands .entry)) (now (imuls .entry)) (now (bmuls .entry)) (now (zeros .entry))) (builtBy (now (out .entry)) (now (list .entry)) b)) × (r .cursor .count ≤ length (now (out .entry))) ⌝ }
+{
+    let a = z.ands;
+    let i = z.imuls;
+    let m = z.bmuls;
+    let o = z.zeros;
+    let below = z.linears;
+    let first = build_rows(
+        old,
+        new,
+        ands,
+        3,
+        a,
+        rhss,
+        table,
+        decisions,
+        alive,
+        &mut *out,
+        &mut *list,
+        b,
+        below,
+    );
+    let second = build_rows(
+        old,
+        new,
+        imuls,
+        4,
+        i,
+        rhss,
+        table,
+        decisions,
+        alive,
+        &mut *out,
+        &mut *list,
+        first,
+        below,
+    );
+    let third = build_rows(
+        old,
+        new,
+        bmuls,
+        6,
+        m,
+        rhss,
+        table,
+        decisions,
+        alive,
+        &mut *out,
+        &mut *list,
+        second,
+        below,
+    );
+    build_rows(
+        old,
+        new,
+        zeros,
+        1,
+        o,
+        rhss,
+        table,
+        decisions,
+        alive,
+        &mut *out,
+        &mut *list,
+        third,
+        below,
+    )
+}
+
+// Everything that is rebuilt, to an empty store and an empty list.
+pub fn build<'a>(
+    old: &'a [u64],
+    new: &'a [u64],
+    ands: &[u64],
+    imuls: &[u64],
+    bmuls: &[u64],
+    zeros: &[u64],
+    rhss: &[u64],
+    z: Sizes,
+    table: &[u16],
+    decisions: &[u64],
+    alive: &[u64],
+    out: &mut [u64],
+    list: &mut [u64],
+) -> Progress
+    requires { ⌜ Buildable (source (now old) (now new) (now rhss) (now table) (now decisions) (now alive)) z (now ands) (now imuls) (now bmuls) (now zeros) ⌝ }
+    requires { ⌜ length (now out) < 2147483648 ⌝ }
+    ensures { λ r. ⌜ (builtBy (now (out .exit)) (now (list .exit)) r ≡ buildAll (spell (source (now (old .entry)) (now (new .entry)) (now (rhss .entry)) (now (table .entry)) (now (decisions .entry)) (now (alive .entry))) (z .linears)) (operandsIn (source (now (old .entry)) (now (new .entry)) (now (rhss .entry)) (now (table .entry)) (now (decisions .entry)) (now (alive .entry))) z (now (ands .entry)) (now (imuls .entry)) (now (bmuls .entry)) (now (zeros .entry))) (built (wrote (now (out .entry)) 0 [] false) (now (list .entry)) 0)) × (r .cursor .count ≤ length (now (out .entry))) ⌝ }
+{
+    let wires = z.wires;
+    let below = z.linears;
+    let b = Progress {
+        cursor: Cursor {
+            count: 0,
+            full: false,
+        },
+        at: 0,
+    };
+    let roots = build_root_patches(
+        old,
+        new,
+        ands,
+        imuls,
+        bmuls,
+        zeros,
+        rhss,
+        z,
+        table,
+        decisions,
+        alive,
+        &mut *out,
+        &mut *list,
+        b,
+    );
+    build_commits(
+        old,
+        new,
+        rhss,
+        table,
+        decisions,
+        alive,
+        &mut *out,
+        &mut *list,
+        roots,
+        wires,
+        below,
+    )
 }

@@ -1,6 +1,6 @@
 -- The three kinds of wires: not defined, defined and not committed, committed. Assumes nothing.
 use borrow.Author.Tests.{not-true, not-false}
-use Rattle.patch.proofs.Builds.{all-none, all-one, node-none, node-passed, node-taken}
+use Rattle.patch.proofs.Builds.{build-none, build-single, node-none, node-passed, node-taken}
 use Rattle.patch.specs.Building.{Built, builtBy, buildAll}
 use Rattle.patch.specs.Spelling.{Source, source, spell}
 use Rattle.patch.specs.Steps.{Written}
@@ -25,14 +25,14 @@ enum-told c = search needs
 
 returns : tie.Need-returns
 returns c = let s = c .before .before .before .before .before .before .before .before .before .before .before in let q : Source = source (s .args .old .now) (s .args .new .now) (s .args .rhss .now) (s .args .table .now) (s .args .decisions .now) (s .args .alive .now) in let go : Term → Written → Written = spell q (s .args .below) in let z : Built = builtBy (s .args .out .now) (s .args .list .now) (s .args .b) in
-    (sym (ap (λ (os : List Operand). buildAll go os z) (node-none q (getD (s .args .table .now) (s .args .wire .0) 0) (sym (c .before .before .node-of .ensures) ∙ ap toldNode (c .enum-told .given .1))) ∙ all-none go z), s .pre .1 .1 .0)
+    (sym (ap (λ (os : List Operand). buildAll go os z) (node-none q (getD (s .args .table .now) (s .args .wire .0) 0) (sym (c .before .before .node-of .ensures) ∙ ap toldNode (c .enum-told .given .1))) ∙ build-none go z), s .pre .1 .1 .0)
 
 is-committed-requires : tie.Need-is-committed-requires
 is-committed-requires c κs = search needs
 
 returns-2 : tie.Need-returns-2
 returns-2 c = let s = c .before .before .before .before .before .before .before .before .before .before .before .before .before .before in let q : Source = source (s .args .old .now) (s .args .new .now) (s .args .rhss .now) (s .args .table .now) (s .args .decisions .now) (s .args .alive .now) in let go : Term → Written → Written = spell q (s .args .below) in let z : Built = builtBy (s .args .out .now) (s .args .list .now) (s .args .b) in
-    (sym (ap (λ (os : List Operand). buildAll go os z) (node-passed q (getD (s .args .table .now) (s .args .wire .0) 0) _ (sym (c .before .before .before .before .before .node-of .ensures) ∙ ap toldNode (c .before .before .before .node .given .1)) (sym (c .before .is-committed .ensures) ∙ not-true _ (c .if1 .taken))) ∙ all-none go z), s .pre .1 .1 .0)
+    (sym (ap (λ (os : List Operand). buildAll go os z) (node-passed q (getD (s .args .table .now) (s .args .wire .0) 0) _ (sym (c .before .before .before .before .before .node-of .ensures) ∙ ap toldNode (c .before .before .before .node .given .1)) (sym (c .before .is-committed .ensures) ∙ not-true _ (c .if1 .taken))) ∙ build-none go z), s .pre .1 .1 .0)
 
 cast-i : tie.Need-cast-i
 cast-i c = search needs
@@ -54,7 +54,7 @@ same-length-2 c = search needs
 
 returns-3 : tie.Need-returns-3
 returns-3 c = let s = c .before .before .before .before .before .before .before .before .before .before .before .before .before .before .before .before .before .before .before .before .before .before .before in let b = c .before .before .before .before .build-one in let q : Source = source (s .args .old .now) (s .args .new .now) (s .args .rhss .now) (s .args .table .now) (s .args .decisions .now) (s .args .alive .now) in let go : Term → Written → Written = spell q (s .args .below) in let z : Built = builtBy (s .args .out .now) (s .args .list .now) (s .args .b) in
-    (b .ensures .0 ∙ sym (ap (λ (os : List Operand). buildAll go os z) (node-taken q (getD (s .args .table .now) (s .args .wire .0) 0) _ (sym (c .before .before .before .before .before .before .before .before .before .before .before .before .before .before .node-of .ensures) ∙ ap toldNode (c .before .before .before .before .before .before .before .before .before .before .before .before .node .given .1)) (sym (c .before .before .before .before .before .before .before .before .before .before .is-committed .ensures) ∙ not-false _ (c .before .before .before .before .before .before .before .before .before .if1 .left))) ∙ all-one go _ z), b .ensures .1)
+    (b .ensures .0 ∙ sym (ap (λ (os : List Operand). buildAll go os z) (node-taken q (getD (s .args .table .now) (s .args .wire .0) 0) _ (sym (c .before .before .before .before .before .before .before .before .before .before .before .before .before .before .node-of .ensures) ∙ ap toldNode (c .before .before .before .before .before .before .before .before .before .before .before .before .node .given .1)) (sym (c .before .before .before .before .before .before .before .before .before .before .is-committed .ensures) ∙ not-false _ (c .before .before .before .before .before .before .before .before .before .if1 .left))) ∙ build-single go _ z), b .ensures .1)
 
 pub build-committed-spec : {M : Type 1} → statement M
 build-committed-spec =

@@ -1,6 +1,6 @@
 -- A row that names no defined wire has no operand to rebuild. Assumes nothing.
 use borrow.Author.Tests.{not-true, not-false}
-use Rattle.patch.proofs.Builds.{all-none, row-passed, row-taken}
+use Rattle.patch.proofs.Builds.{build-none, row-passed, row-taken}
 use Rattle.patch.specs.Building.{Built, builtBy, buildAll, Rooted}
 use Rattle.patch.specs.Spelling.{Source, source, spell}
 use Rattle.patch.specs.Steps.{Written}
@@ -19,7 +19,7 @@ row-names-requires c κs = let s = c .before .before .before .before .before .be
 
 returns : tie.Need-returns
 returns c = let s = c .before .before .before .before .before .before .before .before .before .before .before in let q : Source = source (s .args .old .now) (s .args .new .now) (s .args .rhss .now) (s .args .table .now) (s .args .decisions .now) (s .args .alive .now) in let go : Term → Written → Written = spell q (s .args .below) in let f : ℕ → Operand = operandOf (s .args .old .now) (s .args .new .now) in let z : Built = builtBy (s .args .out .now) (s .args .list .now) (s .args .b) in
-    (sym (ap (λ (os : List Operand). buildAll go os z) (row-passed q (map f (s .args .row .now)) (sym (c .before .row-names .ensures) ∙ not-true _ (c .if1 .taken))) ∙ all-none go z), s .pre .1 .1 .0)
+    (sym (ap (λ (os : List Operand). buildAll go os z) (row-passed q (map f (s .args .row .now)) (sym (c .before .row-names .ensures) ∙ not-true _ (c .if1 .taken))) ∙ build-none go z), s .pre .1 .1 .0)
 
 build-row-requires : tie.Need-build-row-requires
 build-row-requires c κs = let s = c .before .before .before .before .before .before .before .before .before .before .before .before .before in (s .pre .0, s .pre .1)
