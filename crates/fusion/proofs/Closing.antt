@@ -10,6 +10,7 @@ use Rattle.operand.specs.Numbers.{operandOf}
 use Rattle.lower.specs.declared.Sizes.{Sizes}
 use Rattle.lower.specs.Lists.{joined}
 use Rattle.lower.specs.Accepted.{Once, NoCircle}
+use Rattle.lower.specs.Model.{System}
 use Rattle.lower.specs.Stores.{chunks, rowsOf}
 use Rattle.lower.specs.Faults.{memoryFault}
 use Rattle.lower.proofs.Laws.{chunks-flat}
@@ -28,10 +29,9 @@ use Rattle.fusion.specs.Answer.{toldFused, Fuses, patches}
 use Rattle.fusion.proofs.Models.{keep-same, untouched-is}
 use Rattle.fusion.proofs.System.{parted-length, kept-length, system-left}
 
-pub numbers-length : (z : Sizes) (l : Lent) (c : ℕ → Bool) → length (numbers (fused z l) c) ≡ length (rebuilds (fused z l) c)
+pub numbers-length : (p : System) (c : ℕ → Bool) → length (numbers p c) ≡ length (rebuilds p c)
 unfolding numbers
-numbers-length z l c =
-    handles-length 0 (map (expandOperand (fused z l) c) (rebuilds (fused z l) c)) ∙ length-map (rebuilds (fused z l) c) (expandOperand (fused z l) c)
+numbers-length p c = handles-length 0 (map (expandOperand p c) (rebuilds p c)) ∙ length-map (rebuilds p c) (expandOperand p c)
 
 module _ (z : Sizes) (l : Lent) (e : memoryFault 8192 z (input l) ≡ 0) (once : Once (fused z l .linears)) (k n : ℕ) (hs : List ℕ) where
   pub kept-are : keptRows (untouched (l .old) [] (tableOf 4096 (fused z l))) k n hs ≡ keptRows (isKept z l) k n hs

@@ -5,3 +5,4 @@ pub mod Once
 pub mod Running
 pub mod Rebuilding
 pub mod Closing
+pub mod Making

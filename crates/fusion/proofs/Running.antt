@@ -22,6 +22,7 @@ use Rattle.fusion.specs.declared.Counts.{Counts}
 use Rattle.fusion.specs.declared.Fused.the-variants.{Done, Refused}
 use Rattle.fusion.specs.Left.{Lent, input, output, fused, hasRoom, countsOf, sizesAfter, leaves}
 use Rattle.fusion.specs.Answer.{toldFused, Fuses, refused, circular, short, patches}
+use Rattle.fusion.proofs.System.{system-left}
 use Rattle.fusion.specs.Steps.{Ready, chosen, Holds, Rebuilt, lacksRoom, Patched, short as is-short, patches as is-patched}
 
 module _ (slots : ℕ) (z : Sizes) (l l′ : Lent) (ds ds′ : List ℕ) where
@@ -32,21 +33,19 @@ module _ (slots : ℕ) (z : Sizes) (l l′ : Lent) (ds ds′ : List ℕ) where
   refused-answer _ (was-short f nc m k) n q same = absurd (omega (arith, memory-definitions 8192 z (input l) (memory-none slots z (input l) f), m, n))
   refused-answer _ (decided f nc m y) n q same = absurd (q refl)
 
-  module _ (whole : Ready z (input l) ds′ → hasRoom (fused z l) (chosen z (input l) ds′) l ≡ true
-      → systemOf (sizesAfter (fused z l) (chosen z (input l) ds′) z) (output (leaves z l (chosen z (input l) ds′))) ≡ patched (fused z l) (chosen z (input l) ds′)) where
-    pub done-answer : (r : ℕ) → Decides slots z (input l) ds ds′ r → r ≡ 0 → (o : List ℕ) → Patched z ds′ l l′ o → Fuses slots z l l′ o
-    done-answer r (was-refused e h k) q o x = absurd (h q)
-    done-answer _ (was-circular f w c k) q o x = absurd (omega (arith, q))
-    done-answer _ (was-short f nc m k) q o x = absurd (omega (arith, q))
-    done-answer _ (decided f nc m y) q _ (is-short lacks same) = short f nc (stateAt ds′) (y .solves) lacks same
-    done-answer _ (decided f nc m y) q _ (is-patched has left) =
-        patches f nc (stateAt ds′) (record {
-          solves = y .solves;
-          fits = has;
-          left = left;
-          system = ap (λ (x : Lent). systemOf (sizesAfter (fused z l) (chosen z (input l) ds′) z) (output x)) left
-              ∙ whole (record { slots = slots; fault = f; no-circle = nc; solves = y .solves; long = omega (arith, m, y .long) }) has;
-        })
+  pub done-answer : (r : ℕ) → Decides slots z (input l) ds ds′ r → r ≡ 0 → (o : List ℕ) → Patched z ds′ l l′ o → Fuses slots z l l′ o
+  done-answer r (was-refused e h k) q o x = absurd (h q)
+  done-answer _ (was-circular f w c k) q o x = absurd (omega (arith, q))
+  done-answer _ (was-short f nc m k) q o x = absurd (omega (arith, q))
+  done-answer _ (decided f nc m y) q _ (is-short lacks same) = short f nc (stateAt ds′) (y .solves) lacks same
+  done-answer _ (decided f nc m y) q _ (is-patched has left) =
+      patches f nc (stateAt ds′) (record {
+        solves = y .solves;
+        fits = has;
+        left = left;
+        system = ap (λ (x : Lent). systemOf (sizesAfter (fused z l) (chosen z (input l) ds′) z) (output x)) left
+            ∙ system-left slots z l (stateAt ds′) (memory-none slots z (input l) f) (decided-accepted slots z (input l) f nc) (y .solves) (slots-few slots z (input l) f) has;
+      })
 
   pub ready : (r : ℕ) → Decides slots z (input l) ds ds′ r → r ≡ 0 → Ready z (input l) ds′
   ready r (was-refused e h k) q = absurd (h q)

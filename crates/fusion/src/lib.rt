@@ -20,7 +20,6 @@ ghost use Rattle.fusion.specs.Left.{lent, hasRoom, countsOf, leaves};
 ghost use Rattle.fusion.specs.Answer.{toldFused, Fuses};
 ghost use Rattle.fusion.specs.Steps.{Ready, chosen, Holds, Rebuilt, lacksRoom, Patched};
 use lower::Sizes;
-use patch::Progress;
 use patch::Cursor;
 
 // Operands of rebuilt constraints: six at most of each of 1,024, and one of each of 1,024 definitions.
@@ -113,7 +112,38 @@ fn rebuild(
     ensures { λ r. ⌜ ReachIn (systemOf z (stores (now (old .entry)) [] (now (ands .entry)) (now (imuls .entry)) (now (bmuls .entry)) (now (zeros .entry)) (now (dsts .entry)) (now (rhss .entry)))) (chosen z (stores (now (old .entry)) [] (now (ands .entry)) (now (imuls .entry)) (now (bmuls .entry)) (now (zeros .entry)) (now (dsts .entry)) (now (rhss .entry))) (now (decisions .entry))) (z .linears) (now (dsts .entry)) (now (reach .exit)) ⌝ }
     ensures { λ r. ⌜ Rebuilt (systemOf z (stores (now (old .entry)) [] (now (ands .entry)) (now (imuls .entry)) (now (bmuls .entry)) (now (zeros .entry)) (now (dsts .entry)) (now (rhss .entry)))) (chosen z (stores (now (old .entry)) [] (now (ands .entry)) (now (imuls .entry)) (now (bmuls .entry)) (now (zeros .entry)) (now (dsts .entry)) (now (rhss .entry))) (now (decisions .entry))) (now (out .entry)) (now (list .entry)) (now (out .exit)) (now (list .exit)) r ⌝ }
 {
-    Cursor { count: 0, full: false }
+    let mut alive = [0u64; lower::MAX_DEFINITIONS];
+    reach::masks(
+        old,
+        &old[0..0],
+        ands,
+        imuls,
+        bmuls,
+        zeros,
+        dsts,
+        rhss,
+        z,
+        decisions,
+        &mut *table,
+        &mut alive,
+        &mut *reach,
+    );
+    let b = patch::build::build(
+        old,
+        &old[0..0],
+        ands,
+        imuls,
+        bmuls,
+        zeros,
+        rhss,
+        z,
+        &*table,
+        decisions,
+        &alive,
+        &mut *out,
+        &mut *list,
+    );
+    b.cursor
 }
 
 // Rebuilds and patches a system that is decided, or answers 12.
