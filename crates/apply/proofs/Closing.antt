@@ -1,12 +1,12 @@
 -- Runs of stores, one after the other, and what is read past them. Assumes nothing.
 use mathlib.Core.Path.{_≡_, refl, sym, ap, _∙_}
-use Prim.Native.Nat.{ℕ, zero, suc, _+_, _*_, _-_, _≤_, _<_}
+use Prim.Native.Nat.{ℕ, suc, _+_, _-_, _≤_, _<_}
 use mathlib.Core.Bool.{Bool, true, false, not}
 use mathlib.Core.List.{List, [], _∷_, _++_, map}
 use native.Mathlib.Omega.{arith}
 use native.Mathlib.Numerals.{add-one}
 use lib.ListN.{length, getD, set, take, drop, length-drop}
-use lib.Seq.{sets, length-sets, take-suc, getD-drop, getD-set-other, drop-set-lt, length-take-le}
+use lib.Seq.{sets, take-suc, getD-drop, getD-set-other, drop-set-lt, length-take-le}
 use Rattle.operand.specs.Numbers.{operandOf}
 use Rattle.patch.specs.Spelling.{rowNames}
 use Rattle.patch.proofs.Writing.{sets-both}

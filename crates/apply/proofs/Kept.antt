@@ -5,13 +5,12 @@ use mathlib.Core.Bool.{Bool, true, false, cond}
 use mathlib.Core.List.{List, [], _∷_, _++_, append-assoc, append-nil}
 use native.Mathlib.Omega.{arith}
 use native.Mathlib.Nat.{mul-zero, mul-suc, mul-le-mul, le-refl}
-use native.Mathlib.Numerals.{add-one}
 use lib.ListN.{length, take, drop, length-append, length-take}
-use lib.Seq.{sets, take-add, drop-drop, length-sets}
+use lib.Seq.{sets, take-add, drop-drop}
 use Rattle.lower.specs.Lists.{All, keep, joined}
 use Rattle.lower.specs.Stores.{chunks}
 use Rattle.lower.proofs.Laws.{all-left, all-right}
-use Rattle.apply.specs.Applied.{onlyIf, keptRows}
+use Rattle.apply.specs.Applied.{onlyIf, keptRows, rowsAfter, struck}
 use Rattle.apply.proofs.Closing.{sets-next, drop-past}
 
 pub all-part : (P : ℕ → Type 0) (a k m : ℕ) (l : List ℕ) → a + k ≤ m → All P (take m l) → All P (take k (drop a l))
@@ -74,3 +73,14 @@ module _ (q : List ℕ → Bool) (k : ℕ) where
     at-step r h =
         let w = take k (drop (k * i) hs) in
         h ∙ rw (row-there, kept-more i hs) (omega (arith, a, length-append (keptRows q k i hs) (onlyIf (q w) w)))
+
+  -- what the struck rows leave is filled
+  module _ (hs : List ℕ) (n at : ℕ) (a : at ≡ length (keptRows q k n hs)) where
+    pub struck-told : struck q k n hs ≡ k * n - at
+    unfolding struck
+    struck-told = rw a
+
+    pub filled : (now now′ es : List ℕ) → now ≡ sets hs 0 (keptRows q k n hs) → now′ ≡ sets now at (take (k * n - at) es) → now′ ≡ sets hs 0 (rowsAfter q k n hs es)
+    unfolding rowsAfter
+    filled now now′ es e h =
+        h ∙ rw (e, a) (sets-next hs 0 (length (keptRows q k n hs)) (keptRows q k n hs) (take (k * n - length (keptRows q k n hs)) es) (omega arith))

@@ -1,12 +1,16 @@
 // The patched lists, written over the old ones. Follows frontend/src/pass/fusion/patch.rs.
 ghost use mathlib.Core.Path.{_≡_};
+ghost use mathlib.Core.Bool.{cond};
+ghost use mathlib.Core.List.{[], _∷_};
 ghost use Prim.Native.Nat.{_+_, _*_, _-_, _≤_, _<_};
 ghost use lib.ListN.{length, getD, take, drop};
 ghost use lib.Seq.{sets};
 ghost use Rattle.lower.specs.Lists.{All};
 ghost use Rattle.lower.specs.Stores.{Stands};
-ghost use Rattle.apply.specs.Applied.{untouched, onlyIf, keptRows, rowsAfter, struck, fromImuls, fromBmuls, fromZeros, fromCommits, Rows, Listed};
+ghost use Rattle.apply.specs.Applied.{untouched, onlyIf, keptRows, rowsAfter, struck, fromImuls, fromBmuls, fromZeros, fromCommits, Rows, Listed, isStranded, keepFrom, isCommitted, committedWires, flagsFrom};
+use legraph::Node;
 use lower::Sizes;
+use operand::Wire;
 
 // The `n` numbers from the place `begin` on.
 pub fn extend(to: &mut [u64], at: usize, from: &[u64], begin: usize, n: usize)
@@ -127,4 +131,161 @@ pub fn patch_lists<'a>(
     let from = patch_rows(old, new, &mut *imuls, 4, i, table, list, from);
     let from = patch_rows(old, new, &mut *bmuls, 6, b, table, list, from);
     patch_rows(old, new, &mut *zeros, 1, o, table, list, from)
+}
+
+// What would stand past the end is 0.
+fn number_at(l: &[u64], i: usize) -> u64
+    ensures { λ r. ⌜ r ≡ getD (now (l .entry)) i 0 ⌝ }
+{
+    if i < l.len() { l[i] } else { 0 }
+}
+
+// Not committed, and no walk meets it: its reach mask is 0.
+fn is_stranded(decisions: &[u64], reach: &[u64], d: usize) -> bool
+    ensures { λ r. ⌜ r ≡ isStranded (now (decisions .entry)) (now (reach .entry)) d ⌝ }
+{
+    if number_at(decisions, d) == 0 {
+        return false;
+    }
+    number_at(reach, d) == 0
+}
+
+// Definition `i` goes down to the place `to`, unless it is gone or committed. Answers the next place to write.
+fn keep_definition(
+    dsts: &mut [u16],
+    rhss: &mut [u64],
+    i: usize,
+    to: usize,
+    decisions: &[u64],
+    reach: &[u64],
+) -> usize
+    requires { ⌜ (to ≤ i) × (i < length (now dsts)) × (i < length (now rhss)) ⌝ }
+    ensures { λ r. ⌜ now (dsts .exit) ≡ sets (now (dsts .entry)) to (onlyIf (isStranded (now (decisions .entry)) (now (reach .entry)) i) (getD (now (dsts .entry)) i 0 ∷ [])) ⌝ }
+    ensures { λ r. ⌜ now (rhss .exit) ≡ sets (now (rhss .entry)) to (onlyIf (isStranded (now (decisions .entry)) (now (reach .entry)) i) (getD (now (rhss .entry)) i 0 ∷ [])) ⌝ }
+    ensures { λ r. ⌜ r ≡ to + length (onlyIf (isStranded (now (decisions .entry)) (now (reach .entry)) i) (i ∷ [])) ⌝ }
+{
+    if is_stranded(decisions, reach, i) {
+        dsts[to] = dsts[i];
+        rhss[to] = rhss[i];
+        return to + 1;
+    }
+    to
+}
+
+// Stranded definitions stay, and close up. Answers how many there are.
+pub fn retain_stranded(
+    dsts: &mut [u16],
+    rhss: &mut [u64],
+    n: usize,
+    decisions: &[u64],
+    reach: &[u64],
+) -> usize
+    requires { ⌜ (n ≤ length (now dsts)) × (n ≤ length (now rhss)) ⌝ }
+    ensures { λ r. ⌜ now (dsts .exit) ≡ sets (now (dsts .entry)) 0 (keepFrom (isStranded (now (decisions .entry)) (now (reach .entry))) 0 (take n (now (dsts .entry)))) ⌝ }
+    ensures { λ r. ⌜ now (rhss .exit) ≡ sets (now (rhss .entry)) 0 (keepFrom (isStranded (now (decisions .entry)) (now (reach .entry))) 0 (take n (now (rhss .entry)))) ⌝ }
+    ensures { λ r. ⌜ r ≡ length (keepFrom (isStranded (now (decisions .entry)) (now (reach .entry))) 0 (take n (now (dsts .entry)))) ⌝ }
+{
+    let mut at = 0;
+    let mut i = 0;
+    while i < n {
+        at = keep_definition(&mut *dsts, &mut *rhss, i, at, decisions, reach);
+        i += 1;
+    }
+    at
+}
+
+// A decision of 0 is Commit.
+fn is_committed(table: &[u16], decisions: &[u64], wire: Wire) -> bool
+    ensures { λ r. ⌜ r ≡ isCommitted (now (decisions .entry)) (getD (now (table .entry)) (wire .0) 0) ⌝ }
+{
+    let node = legraph::node_of(table, wire);
+    let Node::LinDef(d) = node else {
+        return false;
+    };
+    number_at(decisions, d.0 as usize) == 0
+}
+
+// The definition of a committed wire, with its new right side. Answers how many are added.
+fn add_definition(
+    dsts: &mut [u16],
+    rhss: &mut [u64],
+    at: usize,
+    wire: Wire,
+    table: &[u16],
+    decisions: &[u64],
+    list: &[u64],
+    from: usize,
+) -> usize
+    requires { ⌜ at + length (onlyIf (isCommitted (now decisions) (getD (now table) (wire .0) 0)) (wire .0 ∷ [])) ≤ length (now dsts) ⌝ }
+    requires { ⌜ at + length (onlyIf (isCommitted (now decisions) (getD (now table) (wire .0) 0)) (wire .0 ∷ [])) ≤ length (now rhss) ⌝ }
+    requires { ⌜ from + length (onlyIf (isCommitted (now decisions) (getD (now table) (wire .0) 0)) (wire .0 ∷ [])) ≤ length (now list) ⌝ }
+    ensures { λ r. ⌜ now (dsts .exit) ≡ sets (now (dsts .entry)) at (onlyIf (isCommitted (now (decisions .entry)) (getD (now (table .entry)) (wire .0) 0)) (wire .0 ∷ [])) ⌝ }
+    ensures { λ r. ⌜ now (rhss .exit) ≡ sets (now (rhss .entry)) at (onlyIf (isCommitted (now (decisions .entry)) (getD (now (table .entry)) (wire .0) 0)) (getD (now (list .entry)) from 0 ∷ [])) ⌝ }
+    ensures { λ r. ⌜ r ≡ length (onlyIf (isCommitted (now (decisions .entry)) (getD (now (table .entry)) (wire .0) 0)) (wire .0 ∷ [])) ⌝ }
+{
+    if is_committed(table, decisions, wire) {
+        dsts[at] = wire.0;
+        rhss[at] = list[from];
+        return 1;
+    }
+    0
+}
+
+// The committed definitions, by rising wire number, with their new right sides. Answers how many there are.
+pub fn add_committed(
+    dsts: &mut [u16],
+    rhss: &mut [u64],
+    at: usize,
+    wires: usize,
+    table: &[u16],
+    decisions: &[u64],
+    list: &[u64],
+    from: usize,
+) -> usize
+    requires { ⌜ wires < 65536 ⌝ }
+    requires { ⌜ at + length (committedWires (now table) (now decisions) 0 wires) ≤ length (now dsts) ⌝ }
+    requires { ⌜ at + length (committedWires (now table) (now decisions) 0 wires) ≤ length (now rhss) ⌝ }
+    requires { ⌜ from + length (committedWires (now table) (now decisions) 0 wires) ≤ length (now list) ⌝ }
+    ensures { λ r. ⌜ now (dsts .exit) ≡ sets (now (dsts .entry)) at (committedWires (now (table .entry)) (now (decisions .entry)) 0 wires) ⌝ }
+    ensures { λ r. ⌜ now (rhss .exit) ≡ sets (now (rhss .entry)) at (take (length (committedWires (now (table .entry)) (now (decisions .entry)) 0 wires)) (drop from (now (list .entry)))) ⌝ }
+    ensures { λ r. ⌜ r ≡ length (committedWires (now (table .entry)) (now (decisions .entry)) 0 wires) ⌝ }
+{
+    let mut n = 0;
+    let mut w = 0;
+    while w < wires {
+        n += add_definition(
+            &mut *dsts,
+            &mut *rhss,
+            at + n,
+            Wire(w as u16),
+            table,
+            decisions,
+            list,
+            from + n,
+        );
+        w += 1;
+    }
+    n
+}
+
+fn flag_of(table: &[u16], decisions: &[u64], wire: Wire) -> u8
+    ensures { λ r. ⌜ r ≡ cond (isCommitted (now (decisions .entry)) (getD (now (table .entry)) (wire .0) 0)) 1 0 ⌝ }
+{
+    if is_committed(table, decisions, wire) {
+        1
+    } else {
+        0
+    }
+}
+
+// 1 for each wire that is committed, else 0.
+pub fn write_flags(flags: &mut [u8], wires: usize, table: &[u16], decisions: &[u64])
+    requires { ⌜ (wires < 65536) × (wires ≤ length (now flags)) ⌝ }
+    ensures { λ r. ⌜ now (flags .exit) ≡ sets (now (flags .entry)) 0 (flagsFrom (now (table .entry)) (now (decisions .entry)) 0 wires) ⌝ }
+{
+    let mut w = 0;
+    while w < wires {
+        flags[w] = flag_of(table, decisions, Wire(w as u16));
+        w += 1;
+    }
 }

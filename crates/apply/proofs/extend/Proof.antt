@@ -5,7 +5,7 @@ use lib.ListN.{length, take, drop, getD, set, length-set}
 use mathlib.Core.List.{List}
 use native.Mathlib.Omega.{arith}
 use Prim.Native.Nat.{ℕ, _+_, _-_, _≤_}
-use mathlib.Core.Path.{_≡_, refl, ap, _∙_}
+use mathlib.Core.Path.{_≡_, ap, _∙_}
 use borrow.Author.Needs.{needs}
 use Rattle.apply.proofs.extend.Statement.{statement}
 use Rattle.apply.proofs.extend.Tie as tie
@@ -44,9 +44,11 @@ loop-less : tie.Need-loop-less Inv-loop μ-loop
 loop-less c = search needs
 
 loop-again : tie.Need-loop-again Inv-loop μ-loop
-loop-again c = let s = c .before .before .before in let l = c .before .before .loop in
-    (omega (arith, c .before .loop-test .taken), length-set {A = ℕ} (l .to) (s .args .at + l .i) (getD (s .args .from .now) (s .args .begin + l .i) 0) ∙ l .inv .1,
-    ap (λ (t : List ℕ). set t (s .args .at + l .i) (getD (s .args .from .now) (s .args .begin + l .i) 0)) (l .inv .2) ∙ copy-step (s .args .from .now) (s .args .begin) (l .i) (omega (arith, c .before .loop-test .taken, s .pre .1)) (s .args .to .now) (s .args .at))
+loop-again c = let s = c .before .before .before in let l = c .before .before .loop in (
+  omega (arith, c .before .loop-test .taken),
+  length-set {A = ℕ} (l .to) (s .args .at + l .i) (getD (s .args .from .now) (s .args .begin + l .i) 0) ∙ l .inv .1,
+  ap (λ (t : List ℕ). set t (s .args .at + l .i) (getD (s .args .from .now) (s .args .begin + l .i) 0)) (l .inv .2) ∙ copy-step (s .args .from .now) (s .args .begin) (l .i) (omega (arith, c .before .loop-test .taken, s .pre .1)) (s .args .to .now) (s .args .at),
+)
 
 same-length : tie.Need-same-length Inv-loop μ-loop
 same-length c = search needs

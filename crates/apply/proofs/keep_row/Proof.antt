@@ -3,10 +3,10 @@ use Rattle.apply.proofs.Closing.{kept-no, kept-yes, untouched-told}
 use Rattle.lower.specs.Stores.{Stands}
 use Rattle.lower.specs.Lists.{All}
 use lib.Seq.{length-take-le}
-use lib.ListN.{length, take, drop, length-drop}
+use lib.ListN.{take, drop, length-drop}
 use native.Mathlib.Omega.{arith}
 use mathlib.Core.Bool.{not}
-use mathlib.Core.Path.{_≡_, sym, ap, _∙_, subst}
+use mathlib.Core.Path.{_≡_, ap, _∙_, subst}
 use Prim.Native.Nat.{ℕ, _+_, _-_}
 use borrow.Author.Needs.{needs}
 use Rattle.apply.proofs.keep_row.Statement.{statement}

@@ -5,7 +5,7 @@ use lib.ListN.{length, take, drop, getD, set, length-set}
 use mathlib.Core.List.{List}
 use native.Mathlib.Omega.{arith}
 use Prim.Native.Nat.{ℕ, _+_, _-_, _≤_, _<_}
-use mathlib.Core.Path.{_≡_, refl, ap, _∙_, ap₂}
+use mathlib.Core.Path.{_≡_, ap, _∙_, ap₂}
 use borrow.Author.Needs.{needs}
 use Rattle.apply.proofs.move_row.Statement.{statement}
 use Rattle.apply.proofs.move_row.Tie as tie
@@ -47,9 +47,11 @@ loop-again : tie.Need-loop-again Inv-loop μ-loop
 loop-again c = let s = c .before .before .before in let l = c .before .before .loop in
     let p : s .args .from + l .i < length (s .args .hs .now) = omega (arith, c .before .loop-test .taken, s .pre .1) in
     let e : getD (l .hs) (s .args .from + l .i) 0 ≡ getD (s .args .hs .now) (s .args .from + l .i) 0
-    = ap (λ (t : List ℕ). getD t (s .args .from + l .i) 0) (l .inv .2) ∙ get-past (s .args .hs .now) (s .args .to) (s .args .from + l .i) (take (l .i) (drop (s .args .from) (s .args .hs .now))) (omega (arith, s .pre .0, part-length (s .args .hs .now) (s .args .from) (l .i) p)) in
-    (omega (arith, c .before .loop-test .taken), length-set {A = ℕ} (l .hs) (s .args .to + l .i) (getD (l .hs) (s .args .from + l .i) 0) ∙ l .inv .1,
-    ap₂ (λ (t : List ℕ) (v : ℕ). set t (s .args .to + l .i) v) (l .inv .2) e ∙ copy-step (s .args .hs .now) (s .args .from) (l .i) p (s .args .hs .now) (s .args .to))
+    = ap (λ (t : List ℕ). getD t (s .args .from + l .i) 0) (l .inv .2) ∙ get-past (s .args .hs .now) (s .args .to) (s .args .from + l .i) (take (l .i) (drop (s .args .from) (s .args .hs .now))) (omega (arith, s .pre .0, part-length (s .args .hs .now) (s .args .from) (l .i) p)) in (
+      omega (arith, c .before .loop-test .taken),
+      length-set {A = ℕ} (l .hs) (s .args .to + l .i) (getD (l .hs) (s .args .from + l .i) 0) ∙ l .inv .1,
+      ap₂ (λ (t : List ℕ) (v : ℕ). set t (s .args .to + l .i) v) (l .inv .2) e ∙ copy-step (s .args .hs .now) (s .args .from) (l .i) p (s .args .hs .now) (s .args .to),
+    )
 
 same-length : tie.Need-same-length Inv-loop μ-loop
 same-length c = search needs
