@@ -6,7 +6,7 @@
 --   rowsAfter          these, and of the numbers of new operands as many as were struck
 --   struck             how many numbers are struck; fromImuls, fromBmuls, fromZeros, fromCommits: where in the list of new numbers those of
 --                      the next list begin, lists in their order
---   Listed             what is asked of the four lists and of the list of new numbers
+--   Rows               n rows of k numbers are there, and stand in their stores; Listed, what is asked of the four lists and of the list of new numbers
 --   onlyIf b l         l, or nothing
 --   isStranded         a definition is not committed, and its reach mask is 0
 --   keepFrom q i l     the elements whose number passes the test, numbers counted from i on
@@ -52,7 +52,7 @@ fromZeros q z ands imuls bmuls = fromBmuls q z ands imuls + struck q 6 (z .bmuls
 abbrev pub fromCommits : (List ℕ → Bool) → Sizes → List ℕ → List ℕ → List ℕ → List ℕ → ℕ
 fromCommits q z ands imuls bmuls zeros = fromZeros q z ands imuls bmuls + struck q 1 (z .zeros) zeros
 
--- n rows of k numbers are there, and their operands stand in their stores
+-- what is read of a list is there: n rows of k numbers, whose operands stand in their stores
 abbrev pub Rows : List ℕ → List ℕ → ℕ → ℕ → List ℕ → Type 0
 Rows old new k n hs = (k * n ≤ length hs) × All (Stands old new) (take (k * n) hs)
 
