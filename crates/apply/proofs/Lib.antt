@@ -1,0 +1,3 @@
+pub mod Closing
+pub mod Kept
+pub mod Definitions
