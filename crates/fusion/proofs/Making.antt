@@ -60,6 +60,10 @@ module _ (z : Sizes) (s : Stores) (decisions : List ℕ) (r : Ready z s decision
       let n = memory-definitions 8192 z s memory in
       (memory, (accepted .once, (accepted .single, (r .no-circle, (q, (r .long, omega (arith, n, a), omega (arith, n, b)))))))
 
+  pub wires-few : z .wires < 65536
+  unfolding systemOf
+  wires-few = omega (arith, accepted .limits .wires-few)
+
   rooted-rows : All (Rooted (s .old) (s .new)) (rowHandles z (s .ands) (s .imuls) (s .bmuls) (s .zeros))
   rooted-rows = all-left (Rooted (s .old) (s .new)) (rowHandles z (s .ands) (s .imuls) (s .bmuls) (s .zeros)) (take (z .linears) (s .rhss)) (all-rooted z s memory accepted)
 
@@ -82,12 +86,8 @@ module _ (z : Sizes) (s : Stores) (decisions : List ℕ) (r : Ready z s decision
           commits-there = λ w d q.
               let f : Defined p w d = found-at p 4096 (accepted .once) (small z s memory) w d q in
               part-all (s .rhss) (z .linears) d 0 rooted-rhss (omega (arith, f .under, count z s memory)) (there .rhss-there);
-          wires-few = wires-few;
+          wires-few = omega (arith, wires-few);
         }
-      where
-        wires-few : z .wires ≤ 65536
-        unfolding systemOf
-        wires-few = omega (arith, accepted .limits .wires-few)
 
     pub build-asks : (t : List ℕ) → t ≡ numbered 0 (take (z .linears) (s .dsts)) (replicate 4096 0) → Buildable (src t) z (s .ands) (s .imuls) (s .bmuls) (s .zeros)
     build-asks t q = subst (λ (x : List ℕ). Buildable (src x) z (s .ands) (s .imuls) (s .bmuls) (s .zeros)) (sym (q ∙ table-made z s memory)) buildable
@@ -106,6 +106,10 @@ module _ (z : Sizes) (s : Stores) (decisions : List ℕ) (r : Ready z s decision
           → builtBy out′ list′ b ≡ built (wrote (sets out 0 (map termNumber (written p c))) (termsWritten p c) [] false) (sets list 0 (numbers p c)) (length (rebuilds p c))
       done h = by-table ∙ rebuilding-fits (r .slots) z s memory accepted few decisions alive (r .solves) a out list few-operands h
 
+      terms-taken : termsWritten p c ≤ length out → take (termsWritten p c) (sets out 0 (map termNumber (written p c))) ≡ map termNumber (written p c)
+      unfolding termsWritten
+      terms-taken h = take-front (map termNumber (written p c)) out (length (written p c)) (length-map (written p c) termNumber) h
+
       pub rebuilt-made : Rebuilt p c out list out′ list′ (b .cursor)
       rebuilt-made = record {
         over = λ h. ap (λ (x : Built). x .wrote .full) by-table ∙ rebuilding-over (r .slots) z s memory accepted few decisions alive (r .solves) a out list few-operands h;
@@ -117,7 +121,3 @@ module _ (z : Sizes) (s : Stores) (decisions : List ℕ) (r : Ready z s decision
           there = omega (arith, few-operands, ap (λ (x : Built). length (x .list)) (done h), length-sets list 0 (numbers p c));
         };
       }
-        where
-          terms-taken : termsWritten p c ≤ length out → take (termsWritten p c) (sets out 0 (map termNumber (written p c))) ≡ map termNumber (written p c)
-          unfolding termsWritten
-          terms-taken h = take-front (map termNumber (written p c)) out (length (written p c)) (length-map (written p c) termNumber) h
