@@ -6,3 +6,5 @@ pub mod Running
 pub mod Rebuilding
 pub mod Closing
 pub mod Making
+pub mod Applying
+pub mod Linear

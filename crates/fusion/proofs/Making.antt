@@ -54,8 +54,9 @@ module _ (z : Sizes) (s : Stores) (decisions : List ℕ) (r : Ready z s decision
   pub there : Placed z s
   there = placed z s (checked z s (memory-places 8192 z s memory))
 
-  pub masks-asks : (t alive reach : List ℕ) → t ≡ replicate 4096 0 → length alive ≡ 1024 → length reach ≡ 1024
-      → (memoryFault 8192 z s ≡ 0) × (Once (p .linears) × (Single p × (NoCircle p × ((t ≡ replicate 4096 0) × ((z .linears ≤ length decisions) × (z .linears ≤ length alive) × (z .linears ≤ length reach))))))
+  -- alive and reach are the lengths of the stores of masks
+  pub masks-asks : (t : List ℕ) (alive reach : ℕ) → t ≡ replicate 4096 0 → alive ≡ 1024 → reach ≡ 1024
+      → (memoryFault 8192 z s ≡ 0) × (Once (p .linears) × (Single p × (NoCircle p × ((t ≡ replicate 4096 0) × ((z .linears ≤ length decisions) × (z .linears ≤ alive) × (z .linears ≤ reach))))))
   masks-asks t alive reach q a b =
       let n = memory-definitions 8192 z s memory in
       (memory, (accepted .once, (accepted .single, (r .no-circle, (q, (r .long, omega (arith, n, a), omega (arith, n, b)))))))
@@ -118,6 +119,7 @@ module _ (z : Sizes) (s : Stores) (decisions : List ℕ) (r : Ready z s decision
           count = ap (λ (x : Built). x .wrote .count) (done h);
           terms = ap (λ (x : Built). take (termsWritten p c) (x .wrote .new)) (done h) ∙ terms-taken h;
           listed = ap (λ (x : Built). take (length (rebuilds p c)) (x .list)) (done h) ∙ take-front (numbers p c) list (length (rebuilds p c)) (numbers-length p c) few-operands;
+          terms-there = omega (arith, h, ap (λ (x : Built). length (x .wrote .new)) (done h), length-sets out 0 (map termNumber (written p c)));
           there = omega (arith, few-operands, ap (λ (x : Built). length (x .list)) (done h), length-sets list 0 (numbers p c));
         };
       }

@@ -5,11 +5,13 @@
 --   Rebuilt        what rebuilding has come to: the new terms and the numbers of their operands, or a store that is too short
 --   Holds          the new terms and the numbers of their operands, from the front of their stores on
 --   lacksRoom      12, once rebuilding is done
+--   Closable       what closing up the definitions asks
+--   countsBy       the counts, by those of what is left
 --   Patched        what is answered and left for these decisions
 --
 -- Assumes nothing.
 use mathlib.Core.Path.{_≡_}
-use Prim.Native.Nat.{ℕ, _≤_, _<_}
+use Prim.Native.Nat.{ℕ, _+_, _-_, _≤_, _<_}
 use mathlib.Core.Bool.{Bool, true, false, _||_}
 use mathlib.Core.List.{List, [], _∷_, map}
 use lib.Dec.{ltb}
@@ -25,6 +27,9 @@ use Rattle.commit_set.specs.Numbers.{stateAt}
 use Rattle.commit_set.specs.Answer.{ROOM, decisionFault}
 use Rattle.patch.specs.declared.Cursor.{Cursor}
 use Rattle.patch.specs.Patch.{commitSet, written, termsWritten, rebuilds}
+use Rattle.apply.specs.Applied.{isStranded, keepFrom, committedWires}
+use Rattle.fusion.specs.declared.Counts.{Counts}
+use Rattle.fusion.specs.declared.Linears.{Linears}
 use Rattle.fusion.specs.declared.Fused.the-variants.{Done}
 use Rattle.fusion.specs.Left.{Lent, input, fused, numbers, hasRoom, countsOf, leaves}
 use Rattle.fusion.specs.Answer.{toldFused}
@@ -43,6 +48,7 @@ pub record Holds (p : System) (c : ℕ → Bool) (out list : List ℕ) (n : ℕ)
   pub count : n ≡ termsWritten p c
   pub terms : take (termsWritten p c) out ≡ map termNumber (written p c)
   pub listed : take (length (rebuilds p c)) list ≡ numbers p c
+  pub terms-there : termsWritten p c ≤ length out
   pub there : length (rebuilds p c) ≤ length list
 
 -- out and list are the stores of new terms and of operand numbers before, out′ and list′ after
@@ -54,6 +60,25 @@ pub record Rebuilt (p : System) (c : ℕ → Bool) (out list out′ list′ : Li
 -- new and flags are the lengths of what is lent
 unfoldable pub lacksRoom : Cursor → ℕ → ℕ → ℕ → Bool
 lacksRoom c new flags wires = c .full || (ltb new (c .count) || ltb flags wires)
+
+-- what is asked where definitions are closed up: every store is long enough
+pub record Closable (dsts rhss : List ℕ) (n wires : ℕ) (decisions table reach list : List ℕ) (from : ℕ) : Type 0 where
+  pub dsts-there : n ≤ length dsts
+  pub rhss-there : n ≤ length rhss
+  pub wires-few : wires < 65536
+  pub left-few : length (keepFrom (isStranded decisions reach) 0 (take n dsts)) + length (committedWires table decisions 0 wires) ≤ n
+  pub list-there : from + length (committedWires table decisions 0 wires) ≤ length list
+
+-- what is told, by the numbers of stranded and of committed definitions and of new terms
+unfoldable pub countsBy : Sizes → Linears → ℕ → Counts
+countsBy z l written =
+    record {
+      gone = z .linears - l .stranded - l .committed;
+      stranded = l .stranded;
+      committed = l .committed;
+      written = written;
+      kept = z .wires - (z .linears - l .committed);
+    }
 
 pub data Patched (z : Sizes) (decisions : List ℕ) (l l′ : Lent) : List ℕ → Type 0 where
   short : hasRoom (fused z l) (chosen z (input l) decisions) l ≡ false → l′ ≡ l → Patched z decisions l l′ (ROOM ∷ [])

@@ -1,24 +1,17 @@
 // The fusion pass: decide, rebuild, patch. Follows frontend/src/pass/fusion/mod.rs.
 ghost use mathlib.Core.Path.{_≡_};
-ghost use mathlib.Core.Bool.{Bool, true};
-ghost use mathlib.Core.List.{[]};
-ghost use Prim.Native.Nat.{ℕ, _<_, _≤_};
-ghost use lib.ListN.{length, take, replicate};
-ghost use Rattle.lower.specs.Accepted.{MAX_TERMS, Once, Single, NoCircle};
+ghost use mathlib.Core.Bool.{true};
+ghost use mathlib.Core.List.{[], _++_};
+ghost use Prim.Native.Nat.{_+_, _≤_};
+ghost use lib.ListN.{length, take, drop, replicate};
+ghost use lib.Seq.{sets};
 ghost use Rattle.lower.specs.Stores.{stores, systemOf};
-ghost use Rattle.lower.specs.Faults.{memoryFault};
 ghost use Rattle.legraph.specs.Tables.{numbered};
-ghost use Rattle.commit_set.specs.Numbers.{stateAt};
-ghost use Rattle.patch.specs.Patch.{commitSet};
-ghost use Rattle.patch.specs.Steps.{wrote};
-ghost use Rattle.patch.specs.Spelling.{source, spell, Readable, inPlace};
-ghost use Rattle.patch.specs.Expansion.{Within};
-ghost use Rattle.patch.specs.Building.{built, builtBy, buildAll, operandsIn};
-ghost use Rattle.reach.specs.Alive.{AliveIn};
 ghost use Rattle.reach.specs.Reach.{ReachIn};
+ghost use Rattle.apply.specs.Applied.{isStranded, keepFrom, committedWires};
 ghost use Rattle.fusion.specs.Left.{lent, hasRoom, countsOf, leaves};
 ghost use Rattle.fusion.specs.Answer.{toldFused, Fuses};
-ghost use Rattle.fusion.specs.Steps.{Ready, chosen, Holds, Rebuilt, lacksRoom, Patched};
+ghost use Rattle.fusion.specs.Steps.{Ready, chosen, Holds, Rebuilt, lacksRoom, Closable, countsBy, Patched};
 use lower::Sizes;
 use patch::Cursor;
 
@@ -37,6 +30,12 @@ pub struct Counts {
     pub written: usize,
     // wires that need a stored value
     pub kept: usize,
+}
+
+// How many definitions are left of each sort.
+struct Linears {
+    stranded: usize,
+    committed: usize,
 }
 
 pub enum Fused {
@@ -58,6 +57,57 @@ fn lacks_room(c: Cursor, new: usize, flags: usize, wires: usize) -> bool
         return true;
     }
     false
+}
+
+// Definitions: stranded ones are moved down, and committed ones stand after them.
+fn patch_definitions(
+    dsts: &mut [u16],
+    rhss: &mut [u64],
+    n: usize,
+    wires: usize,
+    decisions: &[u64],
+    table: &[u16],
+    reach: &[u64],
+    list: &[u64],
+    from: usize,
+) -> Linears
+    requires { ⌜ Closable (now dsts) (now rhss) n wires (now decisions) (now table) (now reach) (now list) from ⌝ }
+    ensures { λ r. ⌜ now (dsts .exit) ≡ sets (now (dsts .entry)) 0 (keepFrom (isStranded (now (decisions .entry)) (now (reach .entry))) 0 (take n (now (dsts .entry))) ++ committedWires (now (table .entry)) (now (decisions .entry)) 0 wires) ⌝ }
+    ensures { λ r. ⌜ now (rhss .exit) ≡ sets (now (rhss .entry)) 0 (keepFrom (isStranded (now (decisions .entry)) (now (reach .entry))) 0 (take n (now (rhss .entry))) ++ take (length (committedWires (now (table .entry)) (now (decisions .entry)) 0 wires)) (drop from (now (list .entry)))) ⌝ }
+    ensures { λ r. ⌜ (r .stranded ≡ length (keepFrom (isStranded (now (decisions .entry)) (now (reach .entry))) 0 (take n (now (dsts .entry))))) × (r .committed ≡ length (committedWires (now (table .entry)) (now (decisions .entry)) 0 wires)) ⌝ }
+{
+    let stranded = apply::retain_stranded(&mut *dsts, &mut *rhss, n, decisions, reach);
+    let committed = apply::add_committed(
+        &mut *dsts,
+        &mut *rhss,
+        stranded,
+        wires,
+        table,
+        decisions,
+        list,
+        from,
+    );
+    Linears {
+        stranded,
+        committed,
+    }
+}
+
+fn count_all(z: Sizes, l: Linears, written: usize) -> Counts
+    requires { ⌜ (l .stranded + l .committed ≤ z .linears) × (z .linears ≤ z .wires) ⌝ }
+    ensures { λ r. ⌜ r ≡ countsBy z l written ⌝ }
+{
+    let n = z.linears;
+    let wires = z.wires;
+    let stranded = l.stranded;
+    let committed = l.committed;
+    Counts {
+        gone: n - stranded - committed,
+        stranded,
+        committed,
+        written,
+        kept: wires - (n - committed),
+    }
 }
 
 // Writes the patched system over the old one.
@@ -87,7 +137,33 @@ fn apply_patches(
     ensures { λ r. ⌜ lent (now (old .exit)) (now (new .exit)) (now (ands .exit)) (now (imuls .exit)) (now (bmuls .exit)) (now (zeros .exit)) (now (dsts .exit)) (now (rhss .exit)) (now (flags .exit)) ≡ leaves z (lent (now (old .entry)) (now (new .entry)) (now (ands .entry)) (now (imuls .entry)) (now (bmuls .entry)) (now (zeros .entry)) (now (dsts .entry)) (now (rhss .entry)) (now (flags .entry))) (chosen z (stores (now (old .entry)) [] (now (ands .entry)) (now (imuls .entry)) (now (bmuls .entry)) (now (zeros .entry)) (now (dsts .entry)) (now (rhss .entry))) (now (decisions .entry))) ⌝ }
     ensures { λ r. ⌜ r ≡ countsOf (systemOf z (stores (now (old .entry)) [] (now (ands .entry)) (now (imuls .entry)) (now (bmuls .entry)) (now (zeros .entry)) (now (dsts .entry)) (now (rhss .entry)))) (chosen z (stores (now (old .entry)) [] (now (ands .entry)) (now (imuls .entry)) (now (bmuls .entry)) (now (zeros .entry)) (now (dsts .entry)) (now (rhss .entry))) (now (decisions .entry))) ⌝ }
 {
-    Counts { gone: 0, stranded: 0, committed: 0, written: 0, kept: 0 }
+    let n = z.linears;
+    let wires = z.wires;
+    apply::extend(&mut *new, 0, out, 0, count);
+    let from = apply::patch_lists(
+        old,
+        &old[0..0],
+        &mut *ands,
+        &mut *imuls,
+        &mut *bmuls,
+        &mut *zeros,
+        z,
+        table,
+        list,
+    );
+    let l = patch_definitions(
+        &mut *dsts,
+        &mut *rhss,
+        n,
+        wires,
+        decisions,
+        table,
+        reach,
+        list,
+        from,
+    );
+    apply::write_flags(&mut *flags, wires, table, decisions);
+    count_all(z, l, count)
 }
 
 // The masks of the definitions, and with them all operands that are rebuilt.
