@@ -2,7 +2,7 @@
 use mathlib.Core.Path.{_≡_, refl, sym, ap, ap₂, _∙_, subst}
 use Prim.Native.Nat.{ℕ, zero, suc, _+_, _*_, _-_, _≤_, _<_}
 use native.Mathlib.Omega.{arith}
-use mathlib.Core.Bool.{Bool, true, false}
+use mathlib.Core.Bool.{Bool, true}
 use mathlib.Core.List.{List, [], _∷_, _++_, map}
 use lib.ListN.{length, take, drop, replicate, length-append, length-map}
 use lib.Seq.{sets, take-take}
@@ -11,13 +11,13 @@ use Rattle.lower.specs.declared.Sizes.{Sizes}
 use Rattle.lower.specs.Lists.{All, keep}
 use Rattle.lower.specs.Model.{System, Definition, destinations}
 use Rattle.lower.specs.Accepted.{Accepted}
-use Rattle.lower.specs.Stores.{Stores, systemOf, rowsOf, rowHandles, Stands}
+use Rattle.lower.specs.Stores.{systemOf, rowsOf, rowHandles, Stands}
 use Rattle.lower.specs.Faults.{memoryFault}
 use Rattle.lower.proofs.Laws.{all-left, linears-length}
 use Rattle.legraph.specs.Tables.{numbered}
 use Rattle.legraph.proofs.Listing.{tableOf}
 use Rattle.legraph.proofs.Theorem.{table-made}
-use Rattle.patch.specs.Patch.{rowRebuilds, rebuilds, rhssOf, commits, gone, stranded, stays, written, termsWritten, kept}
+use Rattle.patch.specs.Patch.{rowRebuilds, rebuilds, rhssOf, commits, gone, stranded, stays, written, kept}
 use Rattle.patch.specs.Handles.{keepBy}
 use Rattle.patch.specs.Counts.{Counted}
 use Rattle.patch.proofs.Counting.{counted, definitions-few}

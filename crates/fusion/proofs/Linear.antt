@@ -8,7 +8,6 @@ use lib.ListN.{length, take, drop}
 use lib.Seq.{sets, length-sets, length-take-le}
 use Rattle.apply.specs.Applied.{isStranded, keepFrom, committedWires}
 use Rattle.apply.proofs.Closing.{sets-next}
-use Rattle.fusion.specs.declared.Linears.{Linears}
 use Rattle.fusion.specs.Steps.{Closable}
 
 -- as many by number of one list as of another

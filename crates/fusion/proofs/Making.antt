@@ -1,10 +1,10 @@
 -- What the steps of fusing ask is there in a system that is decided, and what rebuilding leaves. Assumes nothing.
-use mathlib.Core.Path.{_≡_, refl, sym, ap, _∙_, subst}
+use mathlib.Core.Path.{_≡_, sym, ap, _∙_, subst}
 use Prim.Native.Nat.{ℕ, _*_, _≤_, _<_}
 use native.Mathlib.Omega.{arith}
-use mathlib.Core.Bool.{Bool, true, false}
+use mathlib.Core.Bool.{Bool, false}
 use mathlib.Core.List.{List, [], map}
-use lib.ListN.{length, getD, take, replicate, length-map}
+use lib.ListN.{length, take, replicate, length-map}
 use lib.Seq.{sets, length-sets}
 use Rattle.operand.specs.Numbers.{termNumber}
 use Rattle.lower.specs.declared.Sizes.{Sizes}
@@ -19,18 +19,17 @@ use Rattle.lower.proofs.Checks.{checked, placed, memory-places, memory-definiti
 use Rattle.legraph.specs.Tables.{numbered}
 use Rattle.legraph.proofs.Listing.{tableOf, Defined, found-at}
 use Rattle.legraph.proofs.Theorem.{count, small, table-made}
-use Rattle.commit_set.specs.Numbers.{stateAt}
 use Rattle.commit_set.proofs.Answers.{memory-none, slots-few}
 use Rattle.commit_set.proofs.Theorem.{decided-accepted}
 use Rattle.patch.specs.declared.Progress.{Progress}
-use Rattle.patch.specs.Patch.{commitSet, rebuilds, written, termsWritten}
-use Rattle.patch.specs.Steps.{Written, wrote}
+use Rattle.patch.specs.Patch.{rebuilds, written, termsWritten}
+use Rattle.patch.specs.Steps.{wrote}
 use Rattle.patch.specs.Spelling.{Source, source, spell}
 use Rattle.patch.specs.Building.{Built, built, builtBy, buildAll, operandsIn, Rooted, Buildable}
 use Rattle.reach.specs.Alive.{AliveIn}
 use Rattle.reach.proofs.Theorem.{ands-part, imuls-part, bmuls-part, zeros-part}
 use Rattle.fusion.specs.Left.{numbers}
-use Rattle.fusion.specs.Steps.{Ready, chosen, Holds, Rebuilt}
+use Rattle.fusion.specs.Steps.{Ready, chosen, Rebuilt}
 use Rattle.fusion.proofs.System.{take-front}
 use Rattle.fusion.proofs.Rebuilding.{all-rooted, all-readable, rebuilds-few, source-within, rebuilding-fits, rebuilding-over}
 use Rattle.fusion.proofs.Closing.{numbers-length}

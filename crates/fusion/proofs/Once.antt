@@ -2,8 +2,9 @@
 use mathlib.Core.Path.{_≡_, refl, sym, ap, _∙_}
 use Prim.Native.Nat.{ℕ, _+_}
 use mathlib.Core.Bool.{Bool}
-use mathlib.Core.List.{List, [], _∷_}
 use lib.ListN.{length}
+use Rattle.word.specs.Answers as T
+use Rattle.word.specs.Answers.{Told}
 use Rattle.lower.specs.declared.Sizes.{Sizes}
 use Rattle.lower.specs.Accepted.{NoCircle, Accepted}
 use Rattle.commit_set.specs.declared.Decision.{Decision}
@@ -37,8 +38,8 @@ module _ (slots : ℕ) (z : Sizes) (l : Lent) where
     one-room = ap (λ (c : ℕ → Bool). hasRoom (fused z l) c l) one-set
 
   -- THE THEOREM. No second answer, and nothing else left in the stores.
-  pub fuses-once : (r₁ r₂ : List ℕ) (l₁ l₂ : Lent) → Fuses slots z l l₁ r₁ → Fuses slots z l l₂ r₂ → (r₁ ≡ r₂) × (l₁ ≡ l₂)
-  fuses-once r₁ r₂ l₁ l₂ (refused e h k) (refused e′ h′ k′) = (ap (λ (r : ℕ). r ∷ []) (e ∙ sym e′), k ∙ sym k′)
+  pub fuses-once : (r₁ r₂ : Told) (l₁ l₂ : Lent) → Fuses slots z l l₁ r₁ → Fuses slots z l l₂ r₂ → (r₁ ≡ r₂) × (l₁ ≡ l₂)
+  fuses-once r₁ r₂ l₁ l₂ (refused e h k) (refused e′ h′ k′) = (ap T.refused (e ∙ sym e′), k ∙ sym k′)
   fuses-once r₁ r₂ l₁ l₂ (refused e h k) (circular f w q k′) = absurd (h (e ∙ f))
   fuses-once r₁ r₂ l₁ l₂ (refused e h k) (short f n st s g k′) = absurd (h (e ∙ f))
   fuses-once r₁ r₂ l₁ l₂ (refused e h k) (patches f n st y) = absurd (h (e ∙ f))

@@ -1,23 +1,22 @@
 -- From what deciding answers to what fusing answers. Assumes nothing.
-use mathlib.Core.Path.{_≡_, refl, sym, ap, _∙_, subst}
-use Prim.Native.Nat.{ℕ, _≤_, _<_}
+use mathlib.Core.Path.{_≡_, refl, sym, ap, _∙_}
+use Prim.Native.Nat.{ℕ, _≤_}
 use native.Mathlib.Omega.{arith}
 use mathlib.Core.Bool.{Bool, true, false, not, _||_, _&&_}
-use mathlib.Core.List.{List, [], _∷_}
+use mathlib.Core.List.{List}
 use lib.Dec.{ltb, leb}
 use borrow.Author.Tests.{leb-true, leb-false, not-true, not-false, lt-ltb, le-ltb}
 use lib.ListN.{length}
+use Rattle.word.specs.Answers.{Told}
 use Rattle.lower.specs.declared.Sizes.{Sizes}
-use Rattle.lower.specs.Model.{System}
-use Rattle.lower.specs.Accepted.{Accepted}
-use Rattle.lower.specs.Stores.{Stores, systemOf}
+use Rattle.lower.specs.Stores.{systemOf}
 use Rattle.lower.proofs.Checks.{memory-definitions}
 use Rattle.commit_set.specs.Numbers.{stateAt}
-use Rattle.commit_set.specs.Answer.{decisionFault, Decides, refused as was-refused, circular as was-circular, short as was-short, decided}
+use Rattle.commit_set.specs.Answer.{Decides, refused as was-refused, circular as was-circular, short as was-short, decided}
 use Rattle.commit_set.proofs.Answers.{memory-none, slots-few}
 use Rattle.commit_set.proofs.Theorem.{decided-accepted}
 use Rattle.patch.specs.declared.Cursor.{Cursor}
-use Rattle.patch.specs.Patch.{commitSet, patched, termsWritten}
+use Rattle.patch.specs.Patch.{termsWritten}
 use Rattle.fusion.specs.declared.Counts.{Counts}
 use Rattle.fusion.specs.declared.Fused.the-variants.{Done, Refused}
 use Rattle.fusion.specs.Left.{Lent, input, output, fused, hasRoom, countsOf, sizesAfter, leaves}
@@ -33,7 +32,7 @@ module _ (slots : ℕ) (z : Sizes) (l l′ : Lent) (ds ds′ : List ℕ) where
   refused-answer _ (was-short f nc m k) n q same = absurd (omega (arith, memory-definitions 8192 z (input l) (memory-none slots z (input l) f), m, n))
   refused-answer _ (decided f nc m y) n q same = absurd (q refl)
 
-  pub done-answer : (r : ℕ) → Decides slots z (input l) ds ds′ r → r ≡ 0 → (o : List ℕ) → Patched z ds′ l l′ o → Fuses slots z l l′ o
+  pub done-answer : (r : ℕ) → Decides slots z (input l) ds ds′ r → r ≡ 0 → (o : Told) → Patched z ds′ l l′ o → Fuses slots z l l′ o
   done-answer r (was-refused e h k) q o x = absurd (h q)
   done-answer _ (was-circular f w c k) q o x = absurd (omega (arith, q))
   done-answer _ (was-short f nc m k) q o x = absurd (omega (arith, q))

@@ -17,14 +17,14 @@ use mathlib.Core.List.{List, [], _++_, map}
 use lib.Dec.{leb}
 use lib.ListN.{length, take, drop}
 use lib.Seq.{sets}
-use Rattle.operand.specs.Numbers.{Term, operandOf, termNumber}
+use Rattle.operand.specs.Numbers.{operandOf, termNumber}
 use Rattle.lower.specs.declared.Sizes.{Sizes}
 use Rattle.lower.specs.Lists.{keep}
 use Rattle.lower.specs.Model.{System, destinations}
 use Rattle.lower.specs.Stores.{Stores, stores, systemOf}
 use Rattle.patch.specs.Lists.{upTo}
 use Rattle.patch.specs.Handles.{handlesFrom, keepBy}
-use Rattle.patch.specs.Patch.{expandOperand, rebuilt, rowRebuilds, rebuilds, written, termsWritten, commits, gone, stranded, stays, patched, kept}
+use Rattle.patch.specs.Patch.{expandOperand, rebuilt, rowRebuilds, rebuilds, written, termsWritten, commits, gone, stranded, stays, kept}
 use Rattle.apply.specs.Applied.{keptRows}
 use Rattle.fusion.specs.declared.Counts.{Counts}
 

@@ -13,10 +13,10 @@
 use mathlib.Core.Path.{_≡_}
 use Prim.Native.Nat.{ℕ, _+_, _-_, _≤_, _<_}
 use mathlib.Core.Bool.{Bool, true, false, _||_}
-use mathlib.Core.List.{List, [], _∷_, map}
+use mathlib.Core.List.{List, map}
 use lib.Dec.{ltb}
 use lib.ListN.{length, take}
-use lib.Seq.{sets}
+use Rattle.word.specs.Answers.{Told, refused}
 use Rattle.operand.specs.Numbers.{termNumber}
 use Rattle.lower.specs.declared.Sizes.{Sizes}
 use Rattle.lower.specs.Model.{System}
@@ -80,7 +80,7 @@ countsBy z l written =
       kept = z .wires - (z .linears - l .committed);
     }
 
-pub data Patched (z : Sizes) (decisions : List ℕ) (l l′ : Lent) : List ℕ → Type 0 where
-  short : hasRoom (fused z l) (chosen z (input l) decisions) l ≡ false → l′ ≡ l → Patched z decisions l l′ (ROOM ∷ [])
+pub data Patched (z : Sizes) (decisions : List ℕ) (l l′ : Lent) : Told → Type 0 where
+  short : hasRoom (fused z l) (chosen z (input l) decisions) l ≡ false → l′ ≡ l → Patched z decisions l l′ (refused ROOM)
   patches : hasRoom (fused z l) (chosen z (input l) decisions) l ≡ true → l′ ≡ leaves z l (chosen z (input l) decisions)
       → Patched z decisions l l′ (toldFused (Done (countsOf (fused z l) (chosen z (input l) decisions))))

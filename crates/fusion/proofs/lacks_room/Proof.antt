@@ -1,7 +1,6 @@
 -- The three tests in turn. Assumes nothing.
 use Rattle.fusion.specs.Steps.{lacksRoom}
 use borrow.Author.Tests.{lt-ltb, le-ltb}
-use borrow.Author.Needs.{needs}
 use Rattle.fusion.proofs.lacks_room.Statement.{statement}
 use Rattle.fusion.proofs.lacks_room.Tie as tie
 

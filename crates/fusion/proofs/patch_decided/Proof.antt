@@ -1,12 +1,11 @@
 -- What has room is patched. Assumes nothing.
 use Rattle.fusion.proofs.Running.{room-lacks, room-has, room-holds, patched-answer}
-use Rattle.fusion.specs.declared.Fused.the-variants.{Done}
 use Rattle.fusion.specs.Answer.{toldFused}
 use Rattle.fusion.specs.Steps.{short}
 use Rattle.fusion.specs.Left.{Lent, lent}
 use lib.ListN.{length-replicate}
 use Prim.Native.Nat.{ℕ}
-use mathlib.Core.Path.{refl, sym, _∙_, ap}
+use mathlib.Core.Path.{refl, sym, _∙_}
 use borrow.Author.Needs.{needs}
 use Rattle.fusion.proofs.patch_decided.Statement.{statement}
 use Rattle.fusion.proofs.patch_decided.Tie as tie

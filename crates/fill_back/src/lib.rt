@@ -1,0 +1,1 @@
+// Filling back: the words of uncommitted defined wires by their definitions.
