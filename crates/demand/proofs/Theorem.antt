@@ -4,14 +4,15 @@ use Prim.Native.Nat.{ℕ, zero, suc, _≤_, _<_}
 use native.Mathlib.Omega.{arith}
 use native.Mathlib.Decide.{decLt}
 use mathlib.Core.Bool.{Bool, true, false, cond, not, _&&_}
-use mathlib.Core.List.{List, map}
+use mathlib.Core.List.{List, map, List·Memᴰ}
 use lib.Dec.{eqb}
-use lib.ListN.{length, getD, take, drop, length-map, List·getD-eq-default}
-use lib.Seq.{drop-at}
+use lib.ListN.{length, getD, take, length-map, List·getD-eq-default}
+use lib.Seq.{take-at, drop-at}
 use borrow.Author.Tests.{eq-eqb}
 use Rattle.word.specs.Answers as T
 use Rattle.word.specs.Answers.{Told, given}
 use Rattle.lower.specs.declared.Sizes.{Sizes}
+use Rattle.lower.specs.Lists.{All, someOf}
 use Rattle.lower.specs.Model.{Definition, System, destinations}
 use Rattle.lower.specs.Accepted.{NoCircle, Accepted}
 use Rattle.lower.specs.Tables.{marked}
@@ -25,8 +26,8 @@ use Rattle.commit_set.specs.Answer.{decisionFault}
 use Rattle.commit_set.proofs.Answers.{memory-none, definition-none, slots-few}
 use Rattle.commit_set.proofs.Theorem.{decided-accepted}
 use Rattle.patch.specs.Lists.{upTo}
-use Rattle.patch.specs.Patch.{commitSet, commits, stranded, rebuild, patched, live}
-use Rattle.patch.proofs.Parts.{clash}
+use Rattle.patch.specs.Patch.{commitSet, commits, allMet, isStranded, stranded, rebuild, patched, live}
+use Rattle.patch.proofs.Parts.{clash, all-kept, all-members}
 use Rattle.patch.proofs.Definitions.{of-looked-up}
 use Rattle.patch.proofs.Unique.{set-undefined}
 use Rattle.undo.specs.FillBack.{Assignment, FilledBack, filledList}
@@ -35,7 +36,7 @@ use Rattle.undo.proofs.Listed.{upTo-length, tabled-at}
 use Rattle.undo.proofs.Theorem.{theorem}
 use Rattle.fusion.specs.declared.Counts.{Counts}
 use Rattle.fusion.specs.declared.Fused.the-variants.{Done}
-use Rattle.fusion.specs.Left.{Lent, input, output, fused, flagsOf, countsOf, sizesAfter, leaves}
+use Rattle.fusion.specs.Left.{Lent, input, fused, flagsOf, countsOf, sizesAfter, leaves}
 use Rattle.fusion.specs.Answer.{toldFused, Patches, Fuses, refused, circular, short, patches}
 use Rattle.fusion.proofs.System.{take-front, room}
 use Rattle.fill_back.specs.Filling as B
@@ -112,6 +113,21 @@ module _ (p : System) (c : ℕ → Bool) where
   unfolding setAside patched live
   aside-live n e = rw (drop-at (stranded p c) (map (rebuild p c) (commits p c)) n (sym e))
 
+  -- they are definitions of the system, and not committed
+  stranded-original : All (λ (d : Definition). List·Memᴰ d (p .linears) × (c (d .dst) ≡ false)) (stranded p c)
+  unfolding stranded isStranded
+  stranded-original =
+      all-kept (isStranded p c) (all-members (p .linears) (λ d m h. (m, first (c (d .dst)) (not (someOf (eqb (d .dst)) (allMet p c))) h)))
+    where
+      first : (a b : Bool) → (not a && b) ≡ true → a ≡ false
+      first true b h = sym h
+      first false b h = refl
+
+  aside-original : (n : ℕ) → n ≡ length (stranded p c)
+      → All (λ (d : Definition). List·Memᴰ d (p .linears) × (c (d .dst) ≡ false)) (take n (patched p c .linears))
+  unfolding patched
+  aside-original n e = rw (take-at (stranded p c) (map (rebuild p c) (commits p c)) n (sym e)) stranded-original
+
 -- ---- filling back
 
 module _ (z : Sizes) (s : Stores) (flags ws ws′ : List ℕ) where
@@ -171,6 +187,9 @@ module _ (slots : ℕ) (z : Sizes) (l l′ : Lent) (st : ℕ → Decision) (f : 
     standing-left : setAside (k .stranded) (left z l′ k) ≡ live p (flagged F)
     standing-left = ap (setAside (k .stranded)) system-left ∙ aside-live p (flagged F) (k .stranded) (s ∙ ap (λ (e : ℕ → Bool). length (stranded p e)) set-left)
 
+    aside-left : All (λ (d : Definition). List·Memᴰ d (p .linears) × (flagged F (d .dst) ≡ false)) (take (k .stranded) (left z l′ k .linears))
+    aside-left = rw system-left (aside-original p (flagged F) (k .stranded) (s ∙ ap (λ (e : ℕ → Bool). length (stranded p e)) set-left))
+
     sizes-right : (ws : List ℕ) → Assignment p ws → lengthsRight z F ws ≡ true
     sizes-right ws a = sized-right z (input l) F ws ws (ap length flags-left ∙ flags-length p c ∙ wires-are) (a .as-long ∙ wires-are)
 
@@ -188,6 +207,7 @@ module _ (slots : ℕ) (z : Sizes) (l l′ : Lent) (st : ℕ → Decision) (f : 
       on-stores =
           record {
             vanished = subst (MentionsNone p (flagged F)) (sym standing-left) (model .vanished);
+            aside = aside-left;
             answered = λ ws ws′ r a h. never-refuses z (input l) F ws ws′ no-fault none (sizes-right ws a) r h;
             fills = λ ws a. B.filled no-fault none (sizes-right ws a) (model .fills ws a .0 .as-long ∙ sym (a .as-long)) (model .fills ws a .1);
             one-filling = one;

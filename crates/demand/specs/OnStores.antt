@@ -12,11 +12,12 @@
 use mathlib.Core.Path.{_≡_}
 use mathlib.Core.Logic.{_↔_}
 use Prim.Native.Nat.{ℕ, _+_}
-use mathlib.Core.Bool.{Bool}
-use mathlib.Core.List.{List}
+use mathlib.Core.Bool.{Bool, false}
+use mathlib.Core.List.{List, List·Memᴰ}
 use lib.ListN.{length, take, drop}
 use Rattle.lower.specs.declared.Sizes.{Sizes}
-use Rattle.lower.specs.Model.{System}
+use Rattle.lower.specs.Lists.{All}
+use Rattle.lower.specs.Model.{Definition, System}
 use Rattle.lower.specs.Values.{wordOf, Satisfies}
 use Rattle.lower.specs.Stores.{systemOf}
 use Rattle.undo.specs.FillBack.{Assignment, Overwritten, filledList}
@@ -82,6 +83,8 @@ module _ (z : Sizes) (l l′ : Lent) where
     pub record UndoneOnStores : Type 0 where
       -- (a) no patched constraint, stranded definitions set aside, mentions an uncommitted defined wire
       pub vanished : MentionsNone (fused z l) flaggedLeft standing
+      -- what is set aside are uncommitted definitions of the original, unchanged
+      pub aside : All (λ (d : Definition). List·Memᴰ d (fused z l .linears) × (flaggedLeft (d .dst) ≡ false)) (take (k .stranded) (left z l′ k .linears))
       -- filling back never refuses, and leaves one assignment only
       pub answered : (ws ws′ : List ℕ) (r : ℕ) → Assignment (fused z l) ws → Fills ws ws′ r → r ≡ 0
       pub fills : (ws : List ℕ) → Assignment (fused z l) ws → Fills ws (filledList (fused z l) flaggedLeft ws) 0
