@@ -131,11 +131,19 @@ module _ (p : System) (c : ℕ → Bool) where
 -- ---- filling back
 
 module _ (z : Sizes) (s : Stores) (flags ws ws′ : List ℕ) where
-  fills-back : (r : ℕ) → FillsIs z s flags ws ws′ r → r ≡ 0 → (length ws′ ≡ length ws) × FilledBack (systemOf z s) (flagged flags) ws ws′
+  -- filling back that answers 0 has filled
+  pub record Filled : Type 0 where
+    pub no-fault : faultOf 8192 z s ≡ 0
+    pub no-circle : NoCircle (systemOf z s)
+    pub sized : lengthsRight z flags ws ≡ true
+    pub as-long : length ws′ ≡ length ws
+    pub back : FilledBack (systemOf z s) (flagged flags) ws ws′
+
+  pub fills-back : (r : ℕ) → FillsIs z s flags ws ws′ r → r ≡ 0 → Filled
   fills-back r (B.refused e h k) q = absurd (h q)
   fills-back r (B.circular e w c k) q = absurd (omega (arith, q))
   fills-back r (B.sized e n h k) q = absurd (omega (arith, q))
-  fills-back r (B.filled e n h k b) q = (k, b)
+  fills-back r (B.filled e n h k b) q = record { no-fault = e; no-circle = n; sized = h; as-long = k; back = b }
 
   sized-right : length flags ≡ z .wires → length ws ≡ z .wires → lengthsRight z flags ws ≡ true
   unfolding lengthsRight
@@ -198,7 +206,7 @@ module _ (slots : ℕ) (z : Sizes) (l l′ : Lent) (st : ℕ → Decision) (f : 
       model = subst (λ (e : ℕ → Bool). Demand3 p e Imul Bmul) set-left (theorem slots (slots-few slots z (input l) f) p acc st (y .solves) Imul Bmul)
 
       one : (ws ws′ : List ℕ) → Assignment p ws → FillsIs z (input l) F ws ws′ 0 → ws′ ≡ filledList p (flagged F) ws
-      one ws ws′ a h = let b = fills-back z (input l) F ws ws′ 0 h refl in model .one-filling ws ws′ a (b .0 ∙ a .as-long) (b .1)
+      one ws ws′ a h = let b = fills-back z (input l) F ws ws′ 0 h refl in model .one-filling ws ws′ a (b .as-long ∙ a .as-long) (b .back)
 
       abbrev Holds : List ℕ → System → Type 0
       Holds ws q = Satisfies Imul Bmul (wordOf ws) q

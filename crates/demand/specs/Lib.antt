@@ -1,1 +1,2 @@
 pub mod OnStores
+pub mod Xored
