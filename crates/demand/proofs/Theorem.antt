@@ -1,6 +1,7 @@
 -- Demand 3 of what fusing leaves in the lent stores. Assumes nothing.
-use mathlib.Core.Path.{_≡_, refl, sym, ap, _∙_, subst, fun-ext}
-use Prim.Native.Nat.{ℕ, zero, suc, _≤_, _<_}
+use mathlib.Core.Path.{_≡_, refl, sym, ap, ap₂, _∙_, subst, fun-ext}
+use mathlib.Core.Logic.{_↔_}
+use Prim.Native.Nat.{ℕ, zero, suc, _+_, _≤_, _<_}
 use native.Mathlib.Omega.{arith}
 use native.Mathlib.Decide.{decLt}
 use mathlib.Core.Bool.{Bool, true, false, cond, not, _&&_}
@@ -36,7 +37,7 @@ use Rattle.undo.proofs.Listed.{upTo-length, tabled-at}
 use Rattle.undo.proofs.Theorem.{theorem}
 use Rattle.fusion.specs.declared.Counts.{Counts}
 use Rattle.fusion.specs.declared.Fused.the-variants.{Done}
-use Rattle.fusion.specs.Left.{Lent, input, fused, flagsOf, countsOf, sizesAfter, leaves}
+use Rattle.fusion.specs.Left.{Lent, input, output, fused, flagsOf, countsOf, sizesAfter, leaves}
 use Rattle.fusion.specs.Answer.{toldFused, Patches, Fuses, refused, circular, short, patches}
 use Rattle.fusion.proofs.System.{take-front, room}
 use Rattle.fill_back.specs.Filling as B
@@ -88,6 +89,9 @@ past-set p st acc w h = go (numberIn 0 (destinations (p .linears)) w) refl
         let b : w < p .wires = of-looked-up {P = λ (d : Definition). d .dst < p .wires} (acc .named .destinations-named) w _ (number-there 0 (p .linears) w d e .right) in
         absurd (omega (arith, b, h))
 
+abbrev withDefinitions : System → List Definition → System
+withDefinitions q ds = record { wires = q .wires; ands = q .ands; imuls = q .imuls; bmuls = q .bmuls; zeros = q .zeros; linears = ds }
+
 module _ (p : System) (c : ℕ → Bool) where
   flags-length : length (flagsOf p c) ≡ p .wires
   unfolding flagsOf
@@ -111,7 +115,7 @@ module _ (p : System) (c : ℕ → Bool) where
   -- the stranded definitions stand first
   aside-live : (n : ℕ) → n ≡ length (stranded p c) → setAside n (patched p c) ≡ live p c
   unfolding setAside patched live
-  aside-live n e = rw (drop-at (stranded p c) (map (rebuild p c) (commits p c)) n (sym e))
+  aside-live n e = ap (withDefinitions (patched p c)) (drop-at (stranded p c) (map (rebuild p c) (commits p c)) n (sym e))
 
   -- they are definitions of the system, and not committed
   stranded-original : All (λ (d : Definition). List·Memᴰ d (p .linears) × (c (d .dst) ≡ false)) (stranded p c)
@@ -188,9 +192,12 @@ module _ (slots : ℕ) (z : Sizes) (l l′ : Lent) (st : ℕ → Decision) (f : 
   set-left = sym (ap flagged flags-left ∙ flags-set p c (past-set p st acc))
 
   module _ (k : Counts) (s : k .stranded ≡ length (stranded p c)) (m : k .committed ≡ length (commits p c)) where
-    system-left : left z l′ k ≡ patched p (flagged F)
+    sizes-left : after z k ≡ sizesAfter p c z
     unfolding after sizesAfter
-    system-left = rw (s, m) (y .system ∙ ap (patched p) set-left)
+    sizes-left = ap₂ (λ (a b : ℕ). record { wires = z .wires; ands = z .ands; imuls = z .imuls; bmuls = z .bmuls; zeros = z .zeros; linears = a + b }) s m
+
+    system-left : left z l′ k ≡ patched p (flagged F)
+    system-left = ap (λ (a : Sizes). systemOf a (output l′)) sizes-left ∙ y .system ∙ ap (patched p) set-left
 
     standing-left : setAside (k .stranded) (left z l′ k) ≡ live p (flagged F)
     standing-left = ap (setAside (k .stranded)) system-left ∙ aside-live p (flagged F) (k .stranded) (s ∙ ap (λ (e : ℕ → Bool). length (stranded p e)) set-left)
@@ -220,7 +227,9 @@ module _ (slots : ℕ) (z : Sizes) (l l′ : Lent) (st : ℕ → Decision) (f : 
             fills = λ ws a. B.filled no-fault none (sizes-right ws a) (model .fills ws a .0 .as-long ∙ sym (a .as-long)) (model .fills ws a .1);
             one-filling = one;
             filled-words = λ ws ws′ a h. subst (Assignment p) (sym (one ws ws′ a h)) (model .fills ws a .0);
-            exactly = λ ws ws′ a h. rw (standing-left, one ws ws′ a h) (model .exactly ws a);
+            exactly = λ ws ws′ a h.
+                subst (λ (vs : List ℕ). Holds ws (setAside (k .stranded) (left z l′ k)) ↔ Holds vs p) (sym (one ws ws′ a h))
+                (subst (λ (q : System). Holds ws q ↔ Holds (filledList p (flagged F) ws) p) (sym standing-left) (model .exactly ws a));
             no-other = λ ws ws′ vs a h v o t. model .no-other ws vs a (v ∙ sym wires-are) o t ∙ sym (one ws ws′ a h);
             still = λ ws a t. subst (Holds ws) (sym system-left) (model .still ws a t);
             returns = λ ws vs vs′ a b t o h. one vs vs′ b h ∙ model .returns ws vs a b t o;
