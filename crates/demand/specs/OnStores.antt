@@ -6,6 +6,7 @@
 --   flagsLeft z l′     the flags as they stand there, one a wire
 --   setAside n q       the system q without its first n definitions
 --   Fills, Agrees      filling back for the original system with these flags; assignments that agree but for uncommitted defined wires
+--   standing           the patched system, its stranded definitions set aside
 --   UndoneOnStores     the five parts; l is what was lent before, l′ after
 --
 -- Assumes nothing.
@@ -58,7 +59,7 @@ setAside n q =
     }
 
 module _ (z : Sizes) (l l′ : Lent) where
-  -- the uncommitted defined wires are those of the original system, by the flags that are left
+  -- the committed wires, by the flags that are left
   abbrev pub flaggedLeft : ℕ → Bool
   flaggedLeft = flagged (flagsLeft z l′)
 
