@@ -1,0 +1,3 @@
+pub mod Theorem
+pub mod Samples
+pub mod Adding

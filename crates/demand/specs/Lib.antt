@@ -1,0 +1,2 @@
+pub mod OnStores
+pub mod Xored
