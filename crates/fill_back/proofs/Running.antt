@@ -4,7 +4,7 @@ use Prim.Native.Nat.{ℕ, zero, suc, _≤_, _<_}
 use native.Mathlib.Omega.{arith}
 use mathlib.Core.Bool.{Bool, true, false, cond, _&&_}
 use lib.Dec.{eqb}
-use borrow.Author.Tests.{eqb-true}
+use borrow.Author.Tests.{eqb-true, eq-eqb, ne-eqb}
 use mathlib.Core.List.{List, [], _∷_, List·Memᴰ, List·Memᴰ·head, List·Memᴰ·tail, List·Memᴰ·not-nil}
 use lib.ListN.{length, set, take, drop, replicate, length-replicate}
 use Rattle.operand.specs.Numbers.{Operand}
@@ -42,6 +42,16 @@ lengths-both z flags ws e = go (eqb (length flags) (z .wires)) (eqb (length ws) 
     go true true h p q = (p refl, q refl)
     go true false h p q = absurd (clash h refl)
     go false b h p q = absurd (clash h refl)
+
+-- the test as it is made
+module _ (z : Sizes) (flags ws : List ℕ) where
+  pub lengths-wrong : (length flags ≡ z .wires → ⊥) → false ≡ lengthsRight z flags ws
+  unfolding lengthsRight
+  lengths-wrong n = rw (ne-eqb (length flags) (z .wires) n)
+
+  pub lengths-last : length flags ≡ z .wires → eqb (length ws) (z .wires) ≡ lengthsRight z flags ws
+  unfolding lengthsRight
+  lengths-last e = rw (eq-eqb (length flags) (z .wires) e)
 
 -- a list of which something is left over ends after that
 drop-under : (l : List ℕ) (k d : ℕ) → List·Memᴰ d (drop k l) → k ≤ length l
