@@ -1,5 +1,5 @@
 -- The steps of the program that fills definition after definition. Assumes nothing.
-use mathlib.Core.Path.{_≡_, refl, sym, ap, _∙_}
+use mathlib.Core.Path.{_≡_, refl, sym, ap, _∙_, subst}
 use Prim.Native.Nat.{ℕ, zero, suc, _+_, _-_, _≤_, _<_}
 use native.Mathlib.Omega.{arith}
 use mathlib.Core.List.{List, [], _∷_}
@@ -9,7 +9,7 @@ use Rattle.lower.specs.Lists.{All}
 use Rattle.lower.specs.Values.{value, wordOf}
 use Rattle.lower.proofs.Firsts.{drop-step}
 use Rattle.commit_set.proofs.Members.{all-get}
-use Rattle.fill_back.specs.Steps.{Held, rhsAt, dstAt, fillStep, fillFrom}
+use Rattle.fill_back.specs.Steps.{Held, rhsAt, dstAt, fillStep, fillFrom, Able}
 
 -- ---- lists from a place on
 
@@ -20,7 +20,7 @@ drop-none : (l : List ℕ) → drop (length l) l ≡ []
 drop-none [] = refl
 drop-none (x ∷ xs) = drop-none xs
 
-pub all-from : {P : ℕ → Type 0} (l : List ℕ) (k i : ℕ) → All P (drop k l) → k ≤ i → i < length l → P (getD l i 0)
+all-from : {P : ℕ → Type 0} (l : List ℕ) (k i : ℕ) → All P (drop k l) → k ≤ i → i < length l → P (getD l i 0)
 all-from {P} l zero i h a b = all-get P l i 0 h b
 all-from {P} [] (suc k) i h a b = absurd (omega arith)
 all-from {P} (x ∷ xs) (suc k) zero h a b = absurd (omega arith)
@@ -47,3 +47,7 @@ module _ (h : Held) (ws : List ℕ) (order : List ℕ) where
   pub from-back : (i : ℕ) (a b : List ℕ) → 0 < i → i ≤ length order → a ≡ fillFrom h (drop i order) ws → b ≡ fillStep h (getD order (i - 1) 0) a → b ≡ fillFrom h (drop (i - 1) order) ws
   unfolding fillFrom
   from-back i a b p k e g = g ∙ ap (fillStep h (getD order (i - 1) 0)) e ∙ sym (ap (λ (ds : List ℕ). fillFrom h ds ws) (drop-back order i p k))
+
+  -- a loop that stands at i meets a definition that it can fill
+  pub able-at : (left : ℕ) {i n m : ℕ} → All (Able h m) (drop left order) → n ≡ m → left ≤ i → i < length order → Able h n (getD order i 0)
+  able-at left {i} {n} {m} a e lo hi = subst (λ (k : ℕ). Able h k (getD order i 0)) (sym e) (all-from {P = Able h m} order left i a lo hi)

@@ -44,7 +44,7 @@ pub fn fill_from<'a>(
     let mut i = order.len();
     while left < i {
         i -= 1;
-        let d = LinDefId(order[i]);
-        fill_one(old, new, dsts, rhss, flags, &mut *assignment, d);
+        let d = order[i];
+        fill_one(old, new, dsts, rhss, flags, &mut *assignment, LinDefId(d));
     }
 }

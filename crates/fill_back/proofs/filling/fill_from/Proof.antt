@@ -1,10 +1,10 @@
 -- The words with the definitions from the last one on are the whole. Assumes nothing.
-use mathlib.Core.Path.{_≡_, refl, sym, _∙_, subst}
-use Prim.Native.Nat.{ℕ, _-_, _≤_}
+use mathlib.Core.Path.{_≡_, refl, _∙_}
+use Prim.Native.Nat.{_-_, _≤_}
 use native.Mathlib.Omega.{arith}
-use lib.ListN.{length, getD, drop}
-use Rattle.fill_back.specs.Steps.{Held, held, fillFrom, Able}
-use Rattle.fill_back.proofs.Storing.{all-from, from-end, from-back}
+use lib.ListN.{length, drop}
+use Rattle.fill_back.specs.Steps.{Held, held, fillFrom}
+use Rattle.fill_back.proofs.Storing.{from-end, from-back, able-at}
 use borrow.Author.Needs.{needs}
 use Rattle.fill_back.proofs.filling.fill_from.Statement.{statement}
 use Rattle.fill_back.proofs.filling.fill_from.Tie as tie
@@ -16,21 +16,21 @@ abbrev μ-loop : tie.MeasureT-loop
 μ-loop old new dsts rhss flags order left assignment₀ i₀ assignment i = i - left
 
 loop-holds : tie.Need-loop-holds Inv-loop μ-loop
-loop-holds c = let s = c .before .before .before .before .before .before .before in (s .pre .1, omega arith, refl, from-end (held (s .args .old .now) (s .args .new .now) (s .args .dsts .now) (s .args .rhss .now) (s .args .flags .now)) (s .args .assignment .now) (s .args .order .now))
+loop-holds c = let s = c .before .before .before .before .before .before .before in (omega (arith, s .pre .1), omega (arith, s .pre .1), refl, from-end (held (s .args .old .now) (s .args .new .now) (s .args .dsts .now) (s .args .rhss .now) (s .args .flags .now)) (s .args .assignment .now) (s .args .order .now))
 
 sub-i : tie.Need-sub-i Inv-loop μ-loop
 sub-i c = search needs
 
-mul-t12 : tie.Need-mul-t12 Inv-loop μ-loop
-mul-t12 c = search needs
+mul-d : tie.Need-mul-d Inv-loop μ-loop
+mul-d c = search needs
 
-shared-slice-read-t14 : tie.Need-shared-slice-read-t14 Inv-loop μ-loop
-shared-slice-read-t14 c = search needs
+shared-slice-read-d : tie.Need-shared-slice-read-d Inv-loop μ-loop
+shared-slice-read-d c = search needs
 
 fill-one-requires : tie.Need-fill-one-requires Inv-loop μ-loop
 fill-one-requires c κs = let s = c .before .before .before .before .before .before .before .before .before .before .before in let l = c .before .before .before .loop in
     let h : Held = held (s .args .old .now) (s .args .new .now) (s .args .dsts .now) (s .args .rhss .now) (s .args .flags .now) in
-    subst (λ (n : ℕ). Able h n (getD (s .args .order .now) (l .i - 1) 0)) (sym (l .inv .2)) (all-from {P = Able h (length (s .args .assignment .now))} (s .args .order .now) (s .args .left) (l .i - 1) (s .pre .0) (omega arith) (omega arith))
+    able-at h (s .args .assignment .now) (s .args .order .now) (s .args .left) (s .pre .0) (l .inv .2) (omega arith) (omega arith)
 
 loop-less : tie.Need-loop-less Inv-loop μ-loop
 loop-less c = search needs
@@ -58,8 +58,8 @@ fill-from-spec =
     μ-loop
     loop-holds
     sub-i
-    mul-t12
-    shared-slice-read-t14
+    mul-d
+    shared-slice-read-d
     fill-one-requires
     loop-less
     loop-again
