@@ -1,1 +1,3 @@
 pub mod Summing
+pub mod Storing
+pub mod Answering
