@@ -10,17 +10,16 @@ use borrow.Author.Tests.{le-leb, lt-leb, leb-true, eq-eqb, ne-eqb, eqb-true}
 use Rattle.shift.specs.Shifts.{validNumber}
 use Rattle.operand.specs.Numbers.{Term, operandOf}
 use Rattle.lower.specs.declared.Sizes.{Sizes}
-use Rattle.lower.specs.Lists.{All}
 use Rattle.lower.specs.Model.{operandsOf}
 use Rattle.lower.specs.Accepted.{ShiftsOf}
-use Rattle.lower.specs.Stores.{Stores, systemOf, rowHandles, handlesIn}
+use Rattle.lower.specs.Stores.{Stores, systemOf, handlesIn}
 use Rattle.lower.specs.Values.{value, wordOf}
 use Rattle.lower.specs.Faults.{unless, termFault, operandFault, memoryFault}
 use Rattle.lower.proofs.Firsts.{else-some, else-first, else-second, unless-holds, first-none}
 use Rattle.lower.proofs.Laws.{all-imp, map-after, operands-model}
 use Rattle.lower.proofs.Checks.{Checked, checked, operand-in, operand-sound, memory-places, memory-others, memory-definitions}
-use Rattle.evaluate.specs.Steps.{Ready, AllReady, valueAt, valuesAt, countIn}
-use Rattle.evaluate.specs.Evaluation.{MAX_WRITTEN_TERMS, ROOM, SIZE, valuesOf, sizeFault, roomFault, evaluationFault, evaluatedBy, valuesBy, toldEvaluated, numberedBy, EvaluateIs}
+use Rattle.evaluate.specs.Steps.{Ready, AllReady, valuesAt, countIn}
+use Rattle.evaluate.specs.Evaluation.{MAX_WRITTEN_TERMS, ROOM, SIZE, valuesOf, sizeFault, evaluationFault, evaluatedBy, valuesBy, toldEvaluated, numberedBy, EvaluateIs}
 use Rattle.evaluate.specs.declared.Evaluated.the-variants.{Done, Refused}
 use Rattle.evaluate.proofs.Storing.{handles-count}
 

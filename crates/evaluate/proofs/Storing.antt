@@ -4,7 +4,7 @@ use Prim.Native.Nat.{ℕ, suc, _+_, _*_, _≤_, _<_}
 use native.Mathlib.Nat.{add-zero}
 use native.Mathlib.Numerals.{add-one}
 use native.Mathlib.Omega.{arith}
-use mathlib.Core.List.{List, [], _∷_, _++_, map, append-assoc}
+use mathlib.Core.List.{List, [], _∷_, _++_, append-assoc}
 use lib.ListN.{length, take, getD, set, length-map, length-append}
 use lib.Seq.{sets, take-suc, length-take-le}
 use Rattle.lower.specs.declared.Sizes.{Sizes}
@@ -99,15 +99,18 @@ module _ (old new ws : List ℕ) where
         )
 
     -- each list after the one before it
-    pub lists-stored : (l : List ℕ) (p₁ p₂ p₃ p₄ : ℕ) → p₁ ≡ 3 * z .ands → p₂ ≡ p₁ + 4 * z .imuls → p₃ ≡ p₂ + 6 * z .bmuls → p₄ ≡ p₃ + z .zeros
-        → sets (sets (sets (sets (sets l 0 a) p₁ i) p₂ b) p₃ o) p₄ d ≡ sets l 0 (valuesAt old new ws (handlesOf z ands imuls bmuls zeros rhss))
-    lists-stored l p₁ p₂ p₃ p₄ e₁ e₂ e₃ e₄ =
-        let l₁ = sets l 0 a in
-        let l₂ = sets l₁ p₁ i in
-        let l₃ = sets l₂ p₂ b in
+    pub lists-stored : (l l₁ l₂ l₃ l₄ l₅ : List ℕ) (p₁ p₂ p₃ p₄ : ℕ) → p₁ ≡ 3 * z .ands → p₂ ≡ p₁ + 4 * z .imuls → p₃ ≡ p₂ + 6 * z .bmuls → p₄ ≡ p₃ + z .zeros
+        → l₁ ≡ sets l 0 a → l₂ ≡ sets l₁ p₁ i → l₃ ≡ sets l₂ p₂ b → l₄ ≡ sets l₃ p₃ o → l₅ ≡ sets l₄ p₄ d
+        → l₅ ≡ sets l 0 (valuesAt old new ws (handlesOf z ands imuls bmuls zeros rhss))
+    lists-stored l l₁ l₂ l₃ l₄ l₅ p₁ p₂ p₃ p₄ e₁ e₂ e₃ e₄ k₁ k₂ k₃ k₄ k₅ =
         sym
         (ap (sets l 0) lists-apart
         ∙ sets-two l 0 p₁ a (i ++ (b ++ (o ++ d))) (omega (arith, e₁, first-length ands (3 * z .ands) (y .ands-in)))
+        ∙ ap (λ (t : List ℕ). sets t p₁ (i ++ (b ++ (o ++ d)))) (sym k₁)
         ∙ sets-two l₁ p₁ p₂ i (b ++ (o ++ d)) (omega (arith, e₂, first-length imuls (4 * z .imuls) (y .imuls-in)))
+        ∙ ap (λ (t : List ℕ). sets t p₂ (b ++ (o ++ d))) (sym k₂)
         ∙ sets-two l₂ p₂ p₃ b (o ++ d) (omega (arith, e₃, first-length bmuls (6 * z .bmuls) (y .bmuls-in)))
-        ∙ sets-two l₃ p₃ p₄ o d (omega (arith, e₄, first-length zeros (z .zeros) (y .zeros-in))))
+        ∙ ap (λ (t : List ℕ). sets t p₃ (o ++ d)) (sym k₃)
+        ∙ sets-two l₃ p₃ p₄ o d (omega (arith, e₄, first-length zeros (z .zeros) (y .zeros-in)))
+        ∙ ap (λ (t : List ℕ). sets t p₄ d) (sym k₄)
+        ∙ sym k₅)

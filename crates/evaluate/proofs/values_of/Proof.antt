@@ -44,11 +44,11 @@ loop-less c = search needs
 
 loop-again : tie.Need-loop-again Inv-loop μ-loop
 loop-again c = let a = c .before .before .before .before .before .before .before .before .before .before .before .before .before .args in let l = c .before .before .before .before .before .before .before .loop in let k = c .before .before .put in (
-      omega arith,
-      k .kept .0 ∙ l .inv .1,
-      k .ensures ∙ ap (λ (t : List ℕ). set t (a .at + l .i) (c .before .before .before .before .operand-value .result)) (l .inv .2)
+  omega arith,
+  k .kept .0 ∙ l .inv .1,
+  k .ensures ∙ ap (λ (t : List ℕ). set t (a .at + l .i) (c .before .before .before .before .operand-value .result)) (l .inv .2)
       ∙ values-step (a .old .now) (a .new .now) (a .words .now) (a .hs .now) (l .i) (omega arith) (a .out .now) (a .at) (c .before .before .before .before .operand-value .result) (c .before .before .before .before .operand-value .ensures),
-    )
+)
 
 add-result : tie.Need-add-result Inv-loop μ-loop
 add-result c = search needs
