@@ -26,7 +26,8 @@ fn term_value(t: u64, words: &[u64]) -> u64
     let inner = shift::valid::from_index(operand::term::inner(t));
     let outer = shift::valid::from_index(operand::term::outer(t));
     let word = word_of(words, wire.0 as usize);
-    shift::valid::apply(outer, shift::valid::apply(inner, word))
+    let moved = shift::valid::apply(inner, word);
+    shift::valid::apply(outer, moved)
 }
 
 // From the last term on, as the model sums them.
