@@ -7,6 +7,7 @@ pub mod Counting
 pub mod Samples
 pub mod Writing
 pub mod Spells
+pub mod Passing
 pub mod Unique
 pub mod Results
 pub mod Handles

@@ -1,9 +1,9 @@
--- The mask shifted twice; past the end it is 0. Assumes nothing.
-use mathlib.Core.Path.{sym, ap, _∙_}
-use Prim.Native.Nat.{ℕ}
-use lib.Dec.{eqb}
+-- The test of the mask; past the end the definition's mask is 0. Assumes nothing.
+use borrow.Author.Tests.{eq-eqb}
 use lib.ListN.{getD, List·getD-eq-default}
-use Rattle.shift.specs.Shifts.{applyOf}
+use lib.Bits.{bitAnd, and-zero-l}
+use Prim.Native.Nat.{ℕ}
+use mathlib.Core.Path.{sym, ap, _∙_}
 use borrow.Author.Needs.{needs}
 use Rattle.patch.proofs.expand.is_dead.Statement.{statement}
 use Rattle.patch.proofs.expand.is_dead.Tie as tie
@@ -11,40 +11,17 @@ use Rattle.patch.proofs.expand.is_dead.Tie as tie
 cast-i : tie.Need-cast-i
 cast-i c = search needs
 
-apply-requires : tie.Need-apply-requires
-apply-requires c κs = search needs
-
-apply-requires-2 : tie.Need-apply-requires-2
-apply-requires-2 c κs = search needs
-
 returns : tie.Need-returns
-returns c = let s = c .before .before .before .before .before in ap (λ (x : ℕ). eqb x 0) (c .apply2 .ensures ∙ ap (applyOf (s .args .outer)) (c .before .apply .ensures ∙ ap (applyOf (s .args .inner)) (sym (List·getD-eq-default {A = ℕ} (s .args .alive .now) 0 (c .before .before .if1 .taken)))))
+returns c = let s = c .before .before in sym (eq-eqb (bitAnd (getD (s .args .alive .now) (s .args .d .0) 0) (s .args .mask)) 0 (ap (λ (x : ℕ). bitAnd x (s .args .mask)) (List·getD-eq-default {A = ℕ} (s .args .alive .now) 0 (c .if1 .taken)) ∙ and-zero-l (s .args .mask)))
 
-mul-apply : tie.Need-mul-apply
-mul-apply c = search needs
+mul-result : tie.Need-mul-result
+mul-result c = search needs
 
-shared-slice-read-apply : tie.Need-shared-slice-read-apply
-shared-slice-read-apply c = search needs
-
-apply-requires-3 : tie.Need-apply-requires-3
-apply-requires-3 c κs = search needs
-
-apply-requires-4 : tie.Need-apply-requires-4
-apply-requires-4 c κs = search needs
+shared-slice-read-result : tie.Need-shared-slice-read-result
+shared-slice-read-result c = search needs
 
 returns-2 : tie.Need-returns-2
-returns-2 c = let s = c .before .before .before .before .before .before in ap (λ (x : ℕ). eqb x 0) (c .apply4 .ensures ∙ ap (applyOf (s .args .outer)) (c .before .apply3 .ensures))
+returns-2 c = search needs
 
 pub is-dead-spec : {M : Type 1} → statement M
-is-dead-spec =
-    tie.close
-    (tie.spec
-    cast-i
-    apply-requires
-    apply-requires-2
-    returns
-    mul-apply
-    shared-slice-read-apply
-    apply-requires-3
-    apply-requires-4
-    returns-2)
+is-dead-spec = tie.close (tie.spec cast-i returns mul-result shared-slice-read-result returns-2)
