@@ -8,6 +8,7 @@ pub mod Samples
 pub mod Writing
 pub mod Spells
 pub mod Passing
+pub mod Looking
 pub mod Unique
 pub mod Results
 pub mod Handles

@@ -89,7 +89,7 @@ clear-more l k from i f e j a b = elim (decLt j i) [ yes h ↦ f j a h | no h �
 
 module _ (s : Source) (small : (e : ℕ) → getD (s .alive) e 0 < 2 ^ 64) (n k : ℕ) (i o : Shift) (hi : Valid i) (ho : Valid o) (sees : Sees k i o) where
   -- a term whose mask has nothing in common with k writes nothing
-  pub passed : (u : Term) → validNumber (u .inner) ≡ true → Within (inPlace s) n (u .wire) → bitAnd (look s u) k ≡ 0 → (m : Written)
+  pub passed : (u : Term) → validNumber (u .inner) ≡ true → Within (inPlace s) n (u .wire) → bitAnd (look (s .table) (s .decisions) (s .alive) u) k ≡ 0 → (m : Written)
       → writeDown (spell s n) (u .wire) (pushValid i o (shiftAt (u .inner)) 2) m ≡ m
   unfolding look
   passed u v deep e m = by (inlinedNumber (s .decisions) (getD (s .table) (u .wire) 0)) refl e (pushValid i o f 2) refl (m .full) refl
@@ -100,7 +100,7 @@ module _ (s : Source) (small : (e : ℕ) → getD (s .alive) e 0 < 2 ^ 64) (n k 
       hf : Valid f
       hf = valid-at (u .inner) v
 
-      by : (x : ℕ) → inlinedNumber (s .decisions) (getD (s .table) (u .wire) 0) ≡ x → bitAnd (lookBy s u x) k ≡ 0 → (p : PushInner) → pushValid i o f 2 ≡ p → (b : Bool) → m .full ≡ b
+      by : (x : ℕ) → inlinedNumber (s .decisions) (getD (s .table) (u .wire) 0) ≡ x → bitAnd (lookBy (s .alive) u x) k ≡ 0 → (p : PushInner) → pushValid i o f 2 ≡ p → (b : Bool) → m .full ≡ b
           → writeDown (spell s n) (u .wire) p m ≡ m
       by x q z Zero r b g = refl
       by x q z OverBudget r b g = refl
@@ -114,7 +114,7 @@ module _ (s : Source) (small : (e : ℕ) → getD (s .alive) e 0 < 2 ^ 64) (n k 
 
   -- so do all that stand before the place r
   pub passed-all : (ts : List ℕ) → ((j : ℕ) → j < length ts → validNumber (termOf (getD ts j 0) .inner) ≡ true) → ((j : ℕ) → j < length ts → Within (inPlace s) n (termOf (getD ts j 0) .wire))
-      → (more j : ℕ) → j + more ≤ length ts → ((l : ℕ) → j ≤ l → l < j + more → bitAnd (look s (termOf (getD ts l 0))) k ≡ 0) → (m : Written)
+      → (more j : ℕ) → j + more ≤ length ts → ((l : ℕ) → j ≤ l → l < j + more → bitAnd (look (s .table) (s .decisions) (s .alive) (termOf (getD ts l 0))) k ≡ 0) → (m : Written)
       → spellUnder (spell s n) i o (map termOf (drop (j + more) ts)) m ≡ spellUnder (spell s n) i o (map termOf (drop j ts)) m
   passed-all ts v deep zero j h f m = let z : j + 0 ≡ j = omega arith in ap (λ (x : ℕ). spellUnder (spell s n) i o (map termOf (drop x ts)) m) z
   passed-all ts v deep (suc more) j h f m =
@@ -135,13 +135,13 @@ module _ (s : Source) (small : (e : ℕ) → getD (s .alive) e 0 < 2 ^ 64) (n k 
   pub masks-length : length ms ≡ length ts
   masks-length = ap length q ∙ length-take-le (length ts) (drop (looksFrom s d) (s .alive)) (rw (length-drop (looksFrom s d) (s .alive)) (omega (arith, opens .looks .ends, same)))
 
-  mask-at : (j : ℕ) → j < length ts → getD ms j 0 ≡ look s (termOf (getD ts j 0))
+  mask-at : (j : ℕ) → j < length ts → getD ms j 0 ≡ look (s .table) (s .decisions) (s .alive) (termOf (getD ts j 0))
   mask-at j h =
       ap (λ (l : List ℕ). getD l j 0) q
       ∙ getD-take (length ts) (drop (looksFrom s d) (s .alive)) j 0 h
       ∙ getD-drop (looksFrom s d) (s .alive) j 0
       ∙ opens .looks .masks j (omega (arith, h, same))
-      ∙ ap (λ (l : List ℕ). look s (termOf (getD l j 0))) (sym e)
+      ∙ ap (λ (l : List ℕ). look (s .table) (s .decisions) (s .alive) (termOf (getD l j 0))) (sym e)
 
   pub passed-to : (from r : ℕ) → from ≤ r → r ≤ length ms → ((j : ℕ) → from ≤ j → j < r → bitAnd (getD ms j 0) k ≡ 0) → (m : Written)
       → spellUnder (spell s n) i o (map termOf (drop r ts)) m ≡ spellUnder (spell s n) i o (map termOf (drop from ts)) m

@@ -8,14 +8,16 @@ ghost use lib.Dec.{eqb};
 ghost use lib.ListN.{length, getD, take, drop};
 ghost use lib.Bits.{bitAnd};
 ghost use Rattle.shift.specs.Shifts.{Valid, validNumber, shiftAt};
-ghost use Rattle.operand.specs.Numbers.{Term, termOf};
+ghost use Rattle.operand.specs.Numbers.{Term, termOf, operandAt, termsAt, operandOf};
 ghost use Rattle.operand.specs.Push.{pushValid};
-ghost use Rattle.lower.specs.Lists.{All};
+ghost use Rattle.lower.specs.Lists.{All, sumOf};
+ghost use Rattle.lower.specs.Faults.{lengthOf};
+ghost use Rattle.lower.specs.Stores.{Stands};
 ghost use Rattle.legraph.specs.Tables.{toldNode};
 ghost use Rattle.legraph.specs.Walked.{rhsIn};
 ghost use Rattle.patch.specs.Expansion.{under, Within};
 ghost use Rattle.patch.specs.Steps.{put, writeDown};
-ghost use Rattle.patch.specs.Spelling.{source, inPlace, inlinedNumber, spelt, spellUnder, spell, Sees, Opens, Readable};
+ghost use Rattle.patch.specs.Spelling.{source, inPlace, inlinedNumber, spelt, spellUnder, spell, Sees, look, Looked, Lookable, Looks, Opens, Readable};
 use crate::Cursor;
 use legraph::Node;
 use operand::LinDefId;
@@ -48,15 +50,22 @@ fn put(out: &mut [u64], c: Cursor, wire: Wire, inner: Shift, outer: Shift) -> Cu
     }
 }
 
+// The bits that can be set in a definition.
+fn mask_of(alive: &[u64], d: LinDefId) -> u64
+    ensures { λ r. ⌜ r ≡ getD (now (alive .entry)) (d .0) 0 ⌝ }
+{
+    let i = d.0 as usize;
+    if alive.len() <= i {
+        return 0;
+    }
+    alive[i]
+}
+
 // Whether the mask takes in nothing that the definition can have.
 fn is_dead(alive: &[u64], d: LinDefId, mask: u64) -> bool
     ensures { λ r. ⌜ r ≡ eqb (bitAnd (getD (now (alive .entry)) (d .0) 0) mask) 0 ⌝ }
 {
-    let i = d.0 as usize;
-    if alive.len() <= i {
-        return true;
-    }
-    alive[i] & mask == 0
+    mask_of(alive, d) & mask == 0
 }
 
 // A decision of 0 is Commit.
@@ -294,5 +303,79 @@ fn expand_below<'a>(
         }
         PushInner::Zero => c,
         PushInner::OverBudget => c,
+    }
+}
+
+// The mask of a term of a definition.
+fn look(table: &[u16], decisions: &[u64], alive: &[u64], t: u64) -> u64
+    requires { ⌜ validNumber (termOf t .inner) ≡ true ⌝ }
+    ensures { λ r. ⌜ r ≡ look (now (table .entry)) (now (decisions .entry)) (now (alive .entry)) (termOf t) ⌝ }
+{
+    let node = inlined(table, decisions, operand::term::wire(t));
+    let Node::LinDef(d) = node else {
+        return 0xffff_ffff_ffff_ffff;
+    };
+    shift::valid::apply(
+        shift::valid::from_index(operand::term::inner(t)),
+        mask_of(alive, d),
+    )
+}
+
+fn look_terms(ts: &[u64], table: &[u16], decisions: &[u64], alive: &mut [u64], at: usize)
+    requires { ⌜ (1024 ≤ at) × (at + length (now ts) ≤ length (now alive)) ⌝ }
+    requires { ⌜ All (λ (t : ℕ). validNumber (termOf t .inner) ≡ true) (now ts) ⌝ }
+    requires { ⌜ ((w : ℕ) → getD (now table) w 0 ≤ 1024) ⌝ }
+    ensures { λ r. ⌜ Looked (now (table .entry)) (now (decisions .entry)) (now (alive .entry)) (now (alive .exit)) (now (ts .entry)) at (length (now (ts .entry))) ⌝ }
+{
+    let mut i = 0;
+    while i < ts.len() {
+        let m = look(table, decisions, &*alive, ts[i]);
+        alive[at + i] = m;
+        i += 1;
+    }
+}
+
+// The masks of one right side, and where the next ones begin.
+fn look_operand<'a>(
+    old: &'a [u64],
+    new: &'a [u64],
+    h: u64,
+    table: &[u16],
+    decisions: &[u64],
+    alive: &mut [u64],
+    at: usize,
+) -> usize
+    requires { ⌜ Stands (now old) (now new) h ⌝ }
+    requires { ⌜ All (λ (u : Term). validNumber (u .inner) ≡ true) (operandOf (now old) (now new) h) ⌝ }
+    requires { ⌜ (1024 ≤ at) × (at + lengthOf h ≤ length (now alive)) ⌝ }
+    requires { ⌜ ((w : ℕ) → getD (now table) w 0 ≤ 1024) ⌝ }
+    ensures { λ r. ⌜ (r ≡ at + lengthOf h) × Looked (now (table .entry)) (now (decisions .entry)) (now (alive .entry)) (now (alive .exit)) (termsAt (now (old .entry)) (now (new .entry)) (operandAt h)) at (lengthOf h) ⌝ }
+{
+    let ts = lower::operand_terms(old, new, h);
+    look_terms(ts, table, decisions, &mut *alive, at);
+    at + ts.len()
+}
+
+// The masks of the terms of the first `n` definitions, behind those of the definitions, with the places where they begin between.
+pub fn write_looks<'a>(
+    old: &'a [u64],
+    new: &'a [u64],
+    rhss: &[u64],
+    table: &[u16],
+    decisions: &[u64],
+    alive: &mut [u64],
+    n: usize,
+)
+    requires { ⌜ Lookable (now old) (now new) (now rhss) (now table) n ⌝ }
+    requires { ⌜ 2048 + sumOf lengthOf (take n (now rhss)) ≤ length (now alive) ⌝ }
+    ensures { λ r. ⌜ ((j : ℕ) → j < 1024 → getD (now (alive .exit)) j 0 ≡ getD (now (alive .entry)) j 0) ⌝ }
+    ensures { λ r. ⌜ ((d : ℕ) → d < n → Looks (source (now (old .entry)) (now (new .entry)) (now (rhss .entry)) (now (table .entry)) (now (decisions .entry)) (now (alive .exit))) d) ⌝ }
+{
+    let mut at = LOOKS + LOOKS;
+    let mut d = 0;
+    while d < n {
+        alive[LOOKS + d] = at as u64;
+        at = look_operand(old, new, rhss[d], table, decisions, &mut *alive, at);
+        d += 1;
     }
 }
