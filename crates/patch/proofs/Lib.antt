@@ -9,6 +9,7 @@ pub mod Writing
 pub mod Spells
 pub mod Passing
 pub mod Looking
+pub mod Lookables
 pub mod Unique
 pub mod Results
 pub mod Handles
