@@ -1,6 +1,6 @@
 -- What the steps of fusing ask is there in a system that is decided, and what rebuilding leaves. Assumes nothing.
 use mathlib.Core.Path.{_≡_, sym, ap, _∙_, subst}
-use Prim.Native.Nat.{ℕ, _*_, _≤_, _<_}
+use Prim.Native.Nat.{ℕ, _+_, _*_, _≤_, _<_}
 use native.Mathlib.Omega.{arith}
 use mathlib.Core.Bool.{Bool, false}
 use mathlib.Core.List.{List, [], map}
@@ -8,11 +8,11 @@ use lib.ListN.{length, take, replicate, length-map}
 use lib.Seq.{sets, length-sets}
 use Rattle.operand.specs.Numbers.{termNumber}
 use Rattle.lower.specs.declared.Sizes.{Sizes}
-use Rattle.lower.specs.Lists.{All}
+use Rattle.lower.specs.Lists.{All, sumOf}
 use Rattle.lower.specs.Model.{System}
 use Rattle.lower.specs.Accepted.{Accepted, Once, Single, NoCircle}
 use Rattle.lower.specs.Stores.{Stores, systemOf, rowHandles, Placed}
-use Rattle.lower.specs.Faults.{memoryFault}
+use Rattle.lower.specs.Faults.{lengthOf, memoryFault}
 use Rattle.lower.proofs.Laws.{all-left, all-right}
 use Rattle.lower.proofs.Firsts.{part-all}
 use Rattle.lower.proofs.Checks.{checked, placed, memory-places, memory-definitions}
@@ -24,7 +24,8 @@ use Rattle.commit_set.proofs.Theorem.{decided-accepted}
 use Rattle.patch.specs.declared.Progress.{Progress}
 use Rattle.patch.specs.Patch.{rebuilds, written, termsWritten}
 use Rattle.patch.specs.Steps.{wrote}
-use Rattle.patch.specs.Spelling.{Source, source, spell}
+use Rattle.patch.specs.Spelling.{Source, source, spell, Looks, Lookable}
+use Rattle.patch.proofs.Lookables.{lookable, looks-room}
 use Rattle.patch.specs.Building.{Built, built, builtBy, buildAll, operandsIn, Rooted, Buildable}
 use Rattle.reach.specs.Alive.{AliveIn}
 use Rattle.reach.proofs.Theorem.{ands-part, imuls-part, bmuls-part, zeros-part}
@@ -54,11 +55,20 @@ module _ (z : Sizes) (s : Stores) (decisions : List ℕ) (r : Ready z s decision
   there = placed z s (checked z s (memory-places 8192 z s memory))
 
   -- alive and reach are the lengths of the stores of masks
-  pub masks-asks : (t : List ℕ) (alive reach : ℕ) → t ≡ replicate 4096 0 → alive ≡ 1024 → reach ≡ 1024
+  pub masks-asks : (t : List ℕ) (alive reach : ℕ) → t ≡ replicate 4096 0 → alive ≡ 10240 → reach ≡ 1024
       → (memoryFault 8192 z s ≡ 0) × (Once (p .linears) × (Single p × (NoCircle p × ((t ≡ replicate 4096 0) × ((z .linears ≤ length decisions) × (z .linears ≤ alive) × (z .linears ≤ reach))))))
   masks-asks t alive reach q a b =
       let n = memory-definitions 8192 z s memory in
       (memory, (accepted .once, (accepted .single, (r .no-circle, (q, (r .long, omega (arith, n, a), omega (arith, n, b)))))))
+
+  -- alive is the length of the store of masks
+  pub looks-asks : (t : List ℕ) (alive : ℕ) → t ≡ numbered 0 (take (z .linears) (s .dsts)) (replicate 4096 0) → alive ≡ 10240
+      → Lookable (s .old) (s .new) (s .rhss) t (z .linears) × (2048 + sumOf lengthOf (take (z .linears) (s .rhss)) ≤ alive)
+  looks-asks t alive q a = (subst (λ (x : List ℕ). Lookable (s .old) (s .new) (s .rhss) x (z .linears)) (sym (q ∙ table-made z s memory)) (lookable z s memory (accepted .once) (accepted .shifted)), omega (arith, a, looks-room z s memory))
+
+  -- the masks of the definitions stand before those of the terms
+  pub mask-first : (d : ℕ) → d < z .linears → d < 1024
+  mask-first d h = omega (arith, h, memory-definitions 8192 z s memory)
 
   pub wires-few : z .wires < 65536
   unfolding systemOf
@@ -74,11 +84,11 @@ module _ (z : Sizes) (s : Stores) (decisions : List ℕ) (r : Ready z s decision
     abbrev src : List ℕ → Source
     src t = source (s .old) (s .new) (s .rhss) t decisions alive
 
-    buildable : Buildable (src (tableOf 4096 p)) z (s .ands) (s .imuls) (s .bmuls) (s .zeros)
-    buildable =
+    buildable : ((d : ℕ) → d < z .linears → Looks (src (tableOf 4096 p)) d) → Buildable (src (tableOf 4096 p)) z (s .ands) (s .imuls) (s .bmuls) (s .zeros)
+    buildable looks =
         let one : z .zeros ≡ 1 * z .zeros = omega arith in
         record {
-          ready = (all-readable z s memory accepted decisions alive, source-within (r .slots) z s memory accepted few decisions alive (r .solves) a);
+          ready = (all-readable z s memory accepted decisions alive looks, source-within (r .slots) z s memory accepted few decisions alive (r .solves) a);
           ands-there = (there .ands-there, ands-part z s memory decisions rooted-rows);
           imuls-there = (there .imuls-there, imuls-part z s memory decisions rooted-rows);
           bmuls-there = (there .bmuls-there, bmuls-part z s memory decisions rooted-rows);
@@ -89,8 +99,11 @@ module _ (z : Sizes) (s : Stores) (decisions : List ℕ) (r : Ready z s decision
           wires-few = omega (arith, wires-few);
         }
 
-    pub build-asks : (t : List ℕ) → t ≡ numbered 0 (take (z .linears) (s .dsts)) (replicate 4096 0) → Buildable (src t) z (s .ands) (s .imuls) (s .bmuls) (s .zeros)
-    build-asks t q = subst (λ (x : List ℕ). Buildable (src x) z (s .ands) (s .imuls) (s .bmuls) (s .zeros)) (sym (q ∙ table-made z s memory)) buildable
+    pub build-asks : (t : List ℕ) → t ≡ numbered 0 (take (z .linears) (s .dsts)) (replicate 4096 0) → ((d : ℕ) → d < z .linears → Looks (src t) d)
+        → Buildable (src t) z (s .ands) (s .imuls) (s .bmuls) (s .zeros)
+    build-asks t q looks =
+        subst (λ (x : List ℕ). Buildable (src x) z (s .ands) (s .imuls) (s .bmuls) (s .zeros)) (sym (q ∙ table-made z s memory))
+        (buildable (subst (λ (x : List ℕ). (d : ℕ) → d < z .linears → Looks (src x) d) (q ∙ table-made z s memory) looks))
 
     module _ (t out list out′ list′ : List ℕ) (b : Progress) (q : t ≡ numbered 0 (take (z .linears) (s .dsts)) (replicate 4096 0))
         (e : builtBy out′ list′ b ≡ buildAll (spell (src t) (z .linears)) (operandsIn (src t) z (s .ands) (s .imuls) (s .bmuls) (s .zeros)) (built (wrote out 0 [] false) list 0))

@@ -27,7 +27,7 @@ use Rattle.commit_set.proofs.Members.{all-terms, all-rhs}
 use Rattle.patch.specs.Expansion.{expand, Fits, Within}
 use Rattle.patch.specs.Patch.{commitSet, inlined, depth, expandTerm, expandOperand, rebuilt, rowRebuilds, rhssOf, rebuilds, written, termsWritten, commits, NeverOver}
 use Rattle.patch.specs.Steps.{wrote, Does}
-use Rattle.patch.specs.Spelling.{Source, source, inPlace, spell, Readable}
+use Rattle.patch.specs.Spelling.{Source, source, inPlace, spell, Looks, Readable}
 use Rattle.patch.specs.Building.{built, buildAll, Rooted, operandsIn}
 use Rattle.patch.proofs.Parts.{all-each, all-two}
 use Rattle.patch.proofs.Chains.{deep}
@@ -53,8 +53,9 @@ module _ (z : Sizes) (s : Stores) (e : memoryFault 8192 z s ≡ 0) (acc : Accept
       (all-unmap (All ShiftsOf) (operandOf (s .old) (s .new)) (handlesIn z s)
       (subst (All (All ShiftsOf)) (operands-model z s (there .dsts-there) (there .rhss-there)) (all-unjoin ShiftsOf (operandsOf (systemOf z s)) (acc .shifted))))
 
-  pub all-readable : (decisions alive : List ℕ) → Readable (source (s .old) (s .new) (s .rhss) (tableOf 4096 (systemOf z s)) decisions alive)
-  all-readable decisions alive w d q =
+  pub all-readable : (decisions alive : List ℕ) → ((d : ℕ) → d < z .linears → Looks (source (s .old) (s .new) (s .rhss) (tableOf 4096 (systemOf z s)) decisions alive) d)
+      → Readable (source (s .old) (s .new) (s .rhss) (tableOf 4096 (systemOf z s)) decisions alive)
+  all-readable decisions alive looks w d q =
       let f : Defined (systemOf z s) w d = found-at (systemOf z s) 4096 (acc .once) (small z s e) w d q in
       let l : d < z .linears = omega (arith, f .under, count z s e) in
       record {
@@ -63,6 +64,7 @@ module _ (z : Sizes) (s : Stores) (e : memoryFault 8192 z s ≡ 0) (acc : Accept
         shifts =
             subst (All (λ (u : Term). validNumber (u .inner) ≡ true)) (sym (rhs-same z s e d (f .under)))
             (all-each (λ u v. v .0) (all-rhs ShiftsOf (systemOf z s) d (f .under) (all-terms ShiftsOf (systemOf z s) (acc .shifted))));
+        looks = looks d l;
       }
 
   -- ---- how many operands are rebuilt

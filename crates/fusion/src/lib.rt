@@ -166,7 +166,10 @@ fn apply_patches(
     count_all(z, l, count)
 }
 
-// The masks of the definitions, and with them all operands that are rebuilt.
+// One mask a definition, one place a definition where the masks of its terms begin, and one mask a term.
+const MAX_MASKS: usize = 10240;
+
+// The masks of the definitions and of their terms, and with them all operands that are rebuilt.
 fn rebuild(
     old: &[u64],
     ands: &[u64],
@@ -188,7 +191,8 @@ fn rebuild(
     ensures { λ r. ⌜ ReachIn (systemOf z (stores (now (old .entry)) [] (now (ands .entry)) (now (imuls .entry)) (now (bmuls .entry)) (now (zeros .entry)) (now (dsts .entry)) (now (rhss .entry)))) (chosen z (stores (now (old .entry)) [] (now (ands .entry)) (now (imuls .entry)) (now (bmuls .entry)) (now (zeros .entry)) (now (dsts .entry)) (now (rhss .entry))) (now (decisions .entry))) (z .linears) (now (dsts .entry)) (now (reach .exit)) ⌝ }
     ensures { λ r. ⌜ Rebuilt (systemOf z (stores (now (old .entry)) [] (now (ands .entry)) (now (imuls .entry)) (now (bmuls .entry)) (now (zeros .entry)) (now (dsts .entry)) (now (rhss .entry)))) (chosen z (stores (now (old .entry)) [] (now (ands .entry)) (now (imuls .entry)) (now (bmuls .entry)) (now (zeros .entry)) (now (dsts .entry)) (now (rhss .entry))) (now (decisions .entry))) (now (out .entry)) (now (list .entry)) (now (out .exit)) (now (list .exit)) r ⌝ }
 {
-    let mut alive = [0u64; lower::MAX_DEFINITIONS];
+    let n = z.linears;
+    let mut alive = [0u64; MAX_MASKS];
     reach::masks(
         old,
         &old[0..0],
@@ -204,6 +208,7 @@ fn rebuild(
         &mut alive,
         &mut *reach,
     );
+    patch::expand::write_looks(old, &old[0..0], rhss, &*table, decisions, &mut alive, n);
     let b = patch::build::build(
         old,
         &old[0..0],

@@ -7,6 +7,9 @@ pub mod Counting
 pub mod Samples
 pub mod Writing
 pub mod Spells
+pub mod Passing
+pub mod Looking
+pub mod Lookables
 pub mod Unique
 pub mod Results
 pub mod Handles

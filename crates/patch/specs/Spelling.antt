@@ -4,21 +4,25 @@
 --   dead alive t       no bit that can be set in the wire of t gets through the shifts of t: nothing would be written
 --   spelt              the store of new terms and how far it is filled, as a state of Steps.antt
 --   spell              a term expanded and written; spellUnder, the terms of its definition that are left
+--   look .. u          the mask of a term u of a definition: the bits that can be set in its wire, below its shift; all where the wire stands
+--   Sees k i o         the mask k takes in just what gets through the shifts i, then o
+--   Looked, Lookable   what writing the masks of terms leaves, and what it asks
+--   Looks s d          the store of masks has, from 1024 on, where the masks of the terms of each definition begin, and has them there
 --
 -- Assumes nothing.
 use mathlib.Core.Path.{_≡_}
-use Prim.Native.Nat.{ℕ, zero, suc, _<_}
-use mathlib.Core.Bool.{Bool, true, false, cond}
+use Prim.Native.Nat.{ℕ, zero, suc, _+_, _^_, _≤_, _<_}
+use mathlib.Core.Bool.{Bool, true, cond}
 use mathlib.Core.List.{List, [], _∷_}
 use mathlib.Core.Option.{Option, none, some}
-use lib.Dec.{ltb, eqb}
-use lib.ListN.{length, getD, set}
+use lib.Dec.{eqb}
+use lib.ListN.{length, getD}
+use lib.Bits.{bitAnd}
 use Rattle.shift.specs.declared.Shift.{Shift}
 use Rattle.shift.specs.Shifts.{validNumber, shiftAt, applyOf}
-use Rattle.operand.specs.declared.PushInner.{PushInner}
-use Rattle.operand.specs.declared.PushInner.the-variants.{Seq, Zero, OverBudget}
-use Rattle.operand.specs.Numbers.{Term, Operand, termNumber}
+use Rattle.operand.specs.Numbers.{Term, Operand, termOf, operandAt, termsAt}
 use Rattle.operand.specs.Push.{pushValid}
+use Rattle.alive.specs.Masks.{ones}
 use Rattle.lower.specs.Lists.{All, someOf}
 use Rattle.lower.specs.Tables.{marked}
 use Rattle.lower.specs.Stores.{Stands}
@@ -75,11 +79,48 @@ unfoldable pub spell : Source → ℕ → Term → Written → Written
 spell s zero t m = cond (m .full) m (put t m)
 spell s (suc n) t m = cond (m .full) m (spellBy s (spell s n) t (inPlace s (t .wire)) m)
 
--- what is read on the way is there: right sides in their stores, with valid shifts
+abbrev pub Sees : ℕ → Shift → Shift → Type 0
+Sees k i o = (k < 2 ^ 64) × ((w : ℕ) → w < 2 ^ 64 → (bitAnd w k ≡ 0 → applyOf o (applyOf i w) ≡ 0) × (applyOf o (applyOf i w) ≡ 0 → bitAnd w k ≡ 0))
+
+-- n is the node of what is put in the place of the term's wire
+abbrev pub lookBy : List ℕ → Term → ℕ → ℕ
+lookBy alive u zero = ones
+lookBy alive u (suc d) = applyOf (shiftAt (u .inner)) (getD alive d 0)
+
+unfoldable pub look : (table decisions alive : List ℕ) → Term → ℕ
+look table decisions alive u = lookBy alive u (inlinedNumber decisions (getD table (u .wire) 0))
+
+abbrev pub termsIn : Source → ℕ → List ℕ
+termsIn s d = termsAt (s .old) (s .new) (operandAt (getD (s .rhss) d 0))
+
+abbrev pub looksFrom : Source → ℕ → ℕ
+looksFrom s d = getD (s .alive) (1024 + d) 0
+
+pub record Looks (s : Source) (d : ℕ) : Type 0 where
+  pub begins : 1024 + d < length (s .alive)
+  pub ends : looksFrom s d + length (termsIn s d) ≤ length (s .alive)
+  pub masks : (i : ℕ) → i < length (termsIn s d) → getD (s .alive) (looksFrom s d + i) 0 ≡ look (s .table) (s .decisions) (s .alive) (termOf (getD (termsIn s d) i 0))
+
+-- the masks of the first n terms of ts are written from `at` on, and what stands before is left
+pub record Looked (table decisions before after ts : List ℕ) (at n : ℕ) : Type 0 where
+  pub long : length after ≡ length before
+  pub kept : (j : ℕ) → j < at → getD after j 0 ≡ getD before j 0
+  pub made : (j : ℕ) → j < n → getD after (at + j) 0 ≡ look table decisions before (termOf (getD ts j 0))
+
+-- what is asked of n definitions whose terms are looked at; a node is no place of the masks of terms
+pub record Lookable (old new rhss table : List ℕ) (n : ℕ) : Type 0 where
+  pub right-sides : n ≤ length rhss
+  pub few : n ≤ 1024
+  pub nodes : (w : ℕ) → getD table w 0 ≤ 1024
+  pub stand : (d : ℕ) → d < n → Stands old new (getD rhss d 0)
+  pub shifts-there : (d : ℕ) → d < n → All (λ (u : Term). validNumber (u .inner) ≡ true) (rhsIn old new rhss d)
+
+-- what is read on the way is there: right sides in their stores, with valid shifts, and the masks of their terms
 pub record Opens (s : Source) (d : ℕ) : Type 0 where
   pub right-side : d < length (s .rhss)
   pub stands : Stands (s .old) (s .new) (getD (s .rhss) d 0)
   pub shifts : All (λ (u : Term). validNumber (u .inner) ≡ true) (rhsIn (s .old) (s .new) (s .rhss) d)
+  pub looks : Looks s d
 
 abbrev pub Readable : Source → Type 0
 Readable s = (w d : ℕ) → getD (s .table) w 0 ≡ suc d → Opens s d

@@ -1,10 +1,11 @@
 -- The masks of a decided system, and with them its operands. Assumes nothing.
-use Rattle.fusion.proofs.Making.{masks-asks, build-asks, rebuilt-made}
-use Rattle.lower.specs.Stores.{Stores, stores}
-use mathlib.Core.List.{[]}
-use lib.ListN.{length-replicate}
-use native.Mathlib.Omega.{arith}
 use Prim.Native.Nat.{ℕ}
+use native.Mathlib.Omega.{arith}
+use lib.ListN.{length-replicate}
+use mathlib.Core.List.{[]}
+use mathlib.Core.Path.{_∙_}
+use Rattle.lower.specs.Stores.{Stores, stores}
+use Rattle.fusion.proofs.Making.{masks-asks, looks-asks, build-asks, rebuilt-made, mask-first}
 use borrow.Author.Needs.{needs}
 use Rattle.fusion.proofs.rebuild.Statement.{statement}
 use Rattle.fusion.proofs.rebuild.Tie as tie
@@ -24,7 +25,24 @@ slice-aggregate-masks c = search needs
 masks-requires : tie.Need-masks-requires
 masks-requires c κs = let s = c .before .before .before .before .before .before .before .before .before .before .before .before .before .before .before .before in
     let st : Stores = stores (s .args .old .now) [] (s .args .ands .now) (s .args .imuls .now) (s .args .bmuls .now) (s .args .zeros .now) (s .args .dsts .now) (s .args .rhss .now) in
-    masks-asks (s .args .z) st (s .args .decisions .now) (s .pre .0) _ _ _ (s .pre .1 .0) (length-replicate {A = ℕ} 1024 0) (s .pre .1 .1)
+    masks-asks (s .args .z) st (s .args .decisions .now) (s .pre .0) _ _ _ (s .pre .1 .0) (length-replicate {A = ℕ} 10240 0) (s .pre .1 .1)
+
+sub-write-looks : tie.Need-sub-write-looks
+sub-write-looks c = search needs
+
+part-write-looks-start : tie.Need-part-write-looks-start
+part-write-looks-start c = search needs
+
+part-write-looks-end : tie.Need-part-write-looks-end
+part-write-looks-end c = search needs
+
+slice-aggregate-write-looks : tie.Need-slice-aggregate-write-looks
+slice-aggregate-write-looks c = search needs
+
+write-looks-requires : tie.Need-write-looks-requires
+write-looks-requires c κs = let s = c .before .before .before .before .before .before .before .before .before .before .before .before .before .before .before .before .before .before .before .before .before .before .before .before .before in
+    let st : Stores = stores (s .args .old .now) [] (s .args .ands .now) (s .args .imuls .now) (s .args .bmuls .now) (s .args .zeros .now) (s .args .dsts .now) (s .args .rhss .now) in
+    looks-asks (s .args .z) st (s .args .decisions .now) (s .pre .0) _ _ (c .before .before .before .before .before .before .before .before .masks .ensures .0) (c .before .before .before .before .before .before .before .before .masks .kept .1 .1 .1 .1 .1 .1 .1 .1 .1 .1 .1 .0 ∙ length-replicate {A = ℕ} 10240 0)
 
 sub-build : tie.Need-sub-build
 sub-build c = search needs
@@ -39,10 +57,11 @@ slice-aggregate-build : tie.Need-slice-aggregate-build
 slice-aggregate-build c = search needs
 
 build-requires : tie.Need-build-requires
-build-requires c κs = let s = c .before .before .before .before .before .before .before .before .before .before .before .before .before .before .before .before .before .before .before .before .before .before .before .before .before .before .before in
+build-requires c κs = let s = c .before .before .before .before .before .before .before .before .before .before .before .before .before .before .before .before .before .before .before .before .before .before .before .before .before .before .before .before .before .before .before .before in
     let st : Stores = stores (s .args .old .now) [] (s .args .ands .now) (s .args .imuls .now) (s .args .bmuls .now) (s .args .zeros .now) (s .args .dsts .now) (s .args .rhss .now) in
-    let e = c .before .before .before .before .before .before .before .before .before .before .masks .ensures in
-    (build-asks (s .args .z) st (s .args .decisions .now) (s .pre .0) _ (e .1 .0) _ (e .0), omega (arith, s .pre .1 .2))
+    let e = c .before .before .before .before .before .before .before .before .before .before .before .before .before .before .before .masks .ensures in
+    let w = c .before .before .before .before .before .before .write-looks .ensures in
+    (build-asks (s .args .z) st (s .args .decisions .now) (s .pre .0) _ (λ d h. w .0 d (mask-first (s .args .z) st (s .args .decisions .now) (s .pre .0) d h) ∙ e .1 .0 d h) _ (e .0) (w .1), omega (arith, s .pre .1 .2))
 
 same-length : tie.Need-same-length
 same-length c = search needs
@@ -57,10 +76,11 @@ same-length-4 : tie.Need-same-length-4
 same-length-4 c = search needs
 
 returns : tie.Need-returns
-returns c = let s = c .before .before .before .before .before .before .before .before .before .before .before .before .before .before .before .before .before .before .before .before .before .before .before .before .before .before .before .before .before .before .before .before .before in
+returns c = let s = c .before .before .before .before .before .before .before .before .before .before .before .before .before .before .before .before .before .before .before .before .before .before .before .before .before .before .before .before .before .before .before .before .before .before .before .before .before .before in
     let st : Stores = stores (s .args .old .now) [] (s .args .ands .now) (s .args .imuls .now) (s .args .bmuls .now) (s .args .zeros .now) (s .args .dsts .now) (s .args .rhss .now) in
-    let e = c .before .before .before .before .before .before .before .before .before .before .before .before .before .before .before .before .masks .ensures in
-    (e .0, (e .1 .1 .0, rebuilt-made (s .args .z) st (s .args .decisions .now) (s .pre .0) _ (e .1 .0) _ _ _ _ _ _ (e .0) (c .before .before .before .before .before .build .ensures .0) (s .pre .1 .3)))
+    let e = c .before .before .before .before .before .before .before .before .before .before .before .before .before .before .before .before .before .before .before .before .before .masks .ensures in
+    let w = c .before .before .before .before .before .before .before .before .before .before .before .before .write-looks .ensures in
+    (e .0, (e .1 .1 .0, rebuilt-made (s .args .z) st (s .args .decisions .now) (s .pre .0) _ (λ d h. w .0 d (mask-first (s .args .z) st (s .args .decisions .now) (s .pre .0) d h) ∙ e .1 .0 d h) _ _ _ _ _ _ (e .0) (c .before .before .before .before .before .build .ensures .0) (s .pre .1 .3)))
 
 pub rebuild-spec : {M : Type 1} → statement M
 rebuild-spec =
@@ -71,6 +91,11 @@ rebuild-spec =
     part-masks-end
     slice-aggregate-masks
     masks-requires
+    sub-write-looks
+    part-write-looks-start
+    part-write-looks-end
+    slice-aggregate-write-looks
+    write-looks-requires
     sub-build
     part-build-start
     part-build-end

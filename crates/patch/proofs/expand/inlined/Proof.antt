@@ -1,9 +1,5 @@
 -- What the table has, unless it is committed. Assumes nothing.
-use Prim.Native.Nat.{suc}
-use lib.ListN.{getD}
-use mathlib.Core.Path.{_≡_, sym, ap, _∙_}
-use mathlib.Core.Bool.{cond}
-use Rattle.patch.specs.Spelling.{inlinedNumber}
+use mathlib.Core.Path.{sym, ap, _∙_}
 use Rattle.legraph.specs.Tables.{toldNode}
 use borrow.Author.Needs.{needs}
 use Rattle.patch.proofs.expand.inlined.Statement.{statement}

@@ -2,8 +2,8 @@
 use mathlib.Core.List.{[]}
 use Rattle.patch.specs.Steps.{wrote}
 use Prim.Native.Nat.{ℕ, _+_}
-use mathlib.Core.Path.{_≡_, ap, ap₂, _∙_}
-use mathlib.Core.Bool.{true, false}
+use mathlib.Core.Path.{ap, ap₂, _∙_}
+use mathlib.Core.Bool.{false}
 use native.Mathlib.Omega.{arith}
 use lib.ListN.{set}
 use Rattle.operand.specs.Numbers.{termNumber}

@@ -1,0 +1,154 @@
+-- The masks of terms, written one after the other behind the masks of the definitions. Assumes nothing.
+use mathlib.Core.Path.{_≡_, refl, sym, ap, _∙_, subst}
+use Prim.Native.Nat.{ℕ, zero, suc, _+_, _-_, _≤_, _<_}
+use mathlib.Core.Bool.{Bool, true, false, cond}
+use mathlib.Core.List.{List}
+use native.Mathlib.Decide.{decLt}
+use native.Mathlib.Omega.{arith}
+use lib.Dec.{eqb}
+use lib.ListN.{length, getD, set, take, drop, length-set, length-drop}
+use lib.Seq.{getD-set-same, getD-set-other, length-take-le}
+use Rattle.shift.specs.Shifts.{validNumber, shiftAt, applyOf}
+use Rattle.operand.specs.Numbers.{Term, termOf, operandAt, storeFor, termsAt, operandOf}
+use Rattle.alive.specs.Masks.{ones}
+use Rattle.lower.specs.Lists.{All, sumOf}
+use Rattle.lower.specs.Faults.{lengthOf}
+use Rattle.lower.specs.Stores.{Stands}
+use Rattle.lower.proofs.Alls.{all-unmap}
+use Rattle.lower.proofs.Firsts.{part-step}
+use Rattle.patch.proofs.Spells.{operand-terms}
+use Rattle.patch.specs.Spelling.{source, inlinedNumber, lookBy, look, Looks, Looked}
+
+-- ---- a look
+
+module _ (table decisions alive : List ℕ) (u : Term) where
+  pub look-none : inlinedNumber decisions (getD table (u .wire) 0) ≡ 0 → ones ≡ look table decisions alive u
+  unfolding look
+  look-none e = sym (ap (lookBy alive u) e)
+
+  pub look-some : (d : ℕ) → inlinedNumber decisions (getD table (u .wire) 0) ≡ suc d → applyOf (shiftAt (u .inner)) (getD alive d 0) ≡ look table decisions alive u
+  unfolding look
+  look-some d e = sym (ap (lookBy alive u) e)
+
+-- it reads the masks of definitions only
+module _ (table decisions a b : List ℕ) (nodes : (w : ℕ) → getD table w 0 ≤ 1024) (same : (j : ℕ) → j < 1024 → getD a j 0 ≡ getD b j 0) where
+  pub look-kept : (u : Term) → look table decisions a u ≡ look table decisions b u
+  unfolding look
+  look-kept u = go (getD table (u .wire) 0) (nodes (u .wire))
+    where
+      go : (x : ℕ) → x ≤ 1024 → lookBy a u (inlinedNumber decisions x) ≡ lookBy b u (inlinedNumber decisions x)
+      go zero h = refl
+      go (suc d) h = at (eqb (getD decisions d 0) 0)
+        where
+          at : (c : Bool) → lookBy a u (cond c 0 (suc d)) ≡ lookBy b u (cond c 0 (suc d))
+          at true = refl
+          at false = ap (applyOf (shiftAt (u .inner))) (same d (omega arith))
+
+-- ---- the terms of one definition
+
+module _ (table decisions before ts : List ℕ) (at : ℕ) (nodes : (w : ℕ) → getD table w 0 ≤ 1024) (low : 1024 ≤ at) where
+  pub looked-none : Looked table decisions before before ts at 0
+  looked-none = record { long = refl; kept = λ j h. refl; made = λ j h. absurd (omega arith) }
+
+  pub looked-more : (after : List ℕ) (i m : ℕ) → Looked table decisions before after ts at i → at + i < length after → m ≡ look table decisions after (termOf (getD ts i 0))
+      → Looked table decisions before (set after (at + i) m) ts at (i + 1)
+  looked-more after i m l h e = record {
+    long = length-set after (at + i) m ∙ l .long;
+    kept = λ j k. getD-set-other after (at + i) j m 0 (λ z. omega (arith, z)) ∙ l .kept j k;
+    made = λ j k. elim (decLt j i) [
+      | yes p ↦ getD-set-other after (at + i) (at + j) m 0 (λ z. omega (arith, z)) ∙ l .made j p
+      | no p ↦ let z : i ≡ j = omega arith in
+          subst (λ (x : ℕ). getD (set after (at + i) m) (at + x) 0 ≡ look table decisions before (termOf (getD ts x 0))) z
+          (getD-set-same after (at + i) m 0 h ∙ e ∙ look-kept table decisions after before nodes (λ x y. l .kept x (omega arith)) (termOf (getD ts i 0)))
+    ];
+  }
+
+-- the terms and how many they are, told otherwise
+pub looked-by : (table decisions before after ts ts′ : List ℕ) (at n : ℕ) → ts ≡ ts′ → length ts ≡ n → Looked table decisions before after ts at (length ts) → Looked table decisions before after ts′ at n
+looked-by table decisions before after ts ts′ at n e k l = subst (Looked table decisions before after ts′ at) k (subst (λ (x : List ℕ). Looked table decisions before after x at (length ts)) e l)
+
+module _ (old new : List ℕ) (h : ℕ) (stands : Stands old new h) where
+  pub terms-length : length (termsAt old new (operandAt h)) ≡ lengthOf h
+  terms-length = length-take-le (lengthOf h) (drop (operandAt h .start) (storeFor old new (operandAt h))) (rw (length-drop (operandAt h .start) (storeFor old new (operandAt h))) (omega (arith, stands)))
+
+  pub terms-valid : (ts : List ℕ) → ts ≡ termsAt old new (operandAt h) → All (λ (u : Term). validNumber (u .inner) ≡ true) (operandOf old new h) → All (λ (t : ℕ). validNumber (termOf t .inner) ≡ true) ts
+  terms-valid ts e a = all-unmap (λ (u : Term). validNumber (u .inner) ≡ true) termOf ts (subst (All (λ (u : Term). validNumber (u .inner) ≡ true)) (sym (operand-terms old new ts h e)) a)
+
+-- ---- the definitions
+
+-- the masks of the definition e are laid down, and end at `at` at the latest
+pub record Laid (table decisions before after ts : List ℕ) (at e : ℕ) : Type 0 where
+  pub first : 2048 ≤ getD after (1024 + e) 0
+  pub last : getD after (1024 + e) 0 + length ts ≤ at
+  pub masks-there : (j : ℕ) → j < length ts → getD after (getD after (1024 + e) 0 + j) 0 ≡ look table decisions before (termOf (getD ts j 0))
+
+module _ (old new rhss table decisions before : List ℕ) where
+  abbrev ts : ℕ → List ℕ
+  ts d = termsAt old new (operandAt (getD rhss d 0))
+
+  pub record Filled (after : List ℕ) (at d : ℕ) : Type 0 where
+    pub as-long : length after ≡ length before
+    pub front : (j : ℕ) → j < 1024 → getD after j 0 ≡ getD before j 0
+    pub past : 2048 ≤ at
+    pub laid : (e : ℕ) → e < d → Laid table decisions before after (ts e) at e
+
+  pub filled-none : Filled before 2048 0
+  filled-none = record { as-long = refl; front = λ j h. refl; past = omega arith; laid = λ e h. absurd (omega arith) }
+
+  module _ (nodes : (w : ℕ) → getD table w 0 ≤ 1024) (after after′ : List ℕ) (at d : ℕ) (few : d < 1024) (room : 2048 ≤ length after)
+      (f : Filled after at d) (l : Looked table decisions (set after (1024 + d) at) after′ (ts d) at (length (ts d))) where
+    stays : (j : ℕ) → j < at → (j ≡ 1024 + d → ⊥) → getD after′ j 0 ≡ getD after j 0
+    stays j h n = l .kept j h ∙ getD-set-other after (1024 + d) j at 0 n
+
+    begun : getD after′ (1024 + d) 0 ≡ at
+    begun = l .kept (1024 + d) (omega (arith, f .past)) ∙ getD-set-same after (1024 + d) at 0 (omega arith)
+
+    front-kept : (j : ℕ) → j < 1024 → getD after′ j 0 ≡ getD before j 0
+    front-kept j h = stays j (omega (arith, f .past)) (λ z. omega (arith, z)) ∙ f .front j h
+
+    earlier : (e : ℕ) → e < d → Laid table decisions before after′ (ts e) (at + length (ts d)) e
+    earlier e h =
+        let y = f .laid e h in
+        let s : getD after′ (1024 + e) 0 ≡ getD after (1024 + e) 0 = stays (1024 + e) (omega (arith, f .past)) (λ z. omega (arith, z)) in
+        record {
+          first = rw s (y .first);
+          last = rw s (omega (arith, y .last));
+          masks-there = λ j k. rw s (stays (getD after (1024 + e) 0 + j) (omega (arith, y .last)) (λ z. omega (arith, z, y .first)) ∙ y .masks-there j k);
+        }
+
+    now-laid : Laid table decisions before after′ (ts d) (at + length (ts d)) d
+    now-laid = record {
+      first = rw begun (f .past);
+      last = rw begun (omega arith);
+      masks-there = λ j k. rw begun (l .made j k ∙ look-kept table decisions (set after (1024 + d) at) before nodes (λ x y. getD-set-other after (1024 + d) x at 0 (λ z. omega (arith, z)) ∙ f .front x y) (termOf (getD (ts d) j 0)));
+    }
+
+    pub filled-more : Filled after′ (at + length (ts d)) (d + 1)
+    filled-more = record {
+      as-long = l .long ∙ length-set after (1024 + d) at ∙ f .as-long;
+      front = front-kept;
+      past = omega (arith, f .past);
+      laid = λ e h. elim (decLt e d) [ yes p ↦ earlier e p | no p ↦ let z : d ≡ e = omega arith in subst (λ (x : ℕ). Laid table decisions before after′ (ts x) (at + length (ts d)) x) z now-laid ];
+    }
+
+  -- the same, by the number of the right side
+  pub filled-step : ((w : ℕ) → getD table w 0 ≤ 1024) → (after after′ : List ℕ) (at d r : ℕ) → d < 1024 → 2048 ≤ length after → Stands old new (getD rhss d 0) → Filled after at d
+      → Looked table decisions (set after (1024 + d) at) after′ (ts d) at (lengthOf (getD rhss d 0)) → r ≡ at + lengthOf (getD rhss d 0) → Filled after′ r (d + 1)
+  filled-step nodes after after′ at d r few room st f l e =
+      let k = terms-length old new (getD rhss d 0) st in
+      subst (λ (x : ℕ). Filled after′ x (d + 1)) (ap (λ (x : ℕ). at + x) k ∙ sym e)
+      (filled-more nodes after after′ at d few room f (subst (Looked table decisions (set after (1024 + d) at) after′ (ts d) at) (sym k) l))
+
+  -- what is laid down is what expansion reads
+  pub filled-looks : ((w : ℕ) → getD table w 0 ≤ 1024) → (after : List ℕ) (at n : ℕ) → Filled after at n → n ≤ 1024 → at ≤ length after → (d : ℕ) → d < n → Looks (source old new rhss table decisions after) d
+  filled-looks nodes after at n f few h d k =
+      let y = f .laid d k in
+      record {
+        begins = omega (arith, f .past);
+        ends = omega (arith, y .last);
+        masks = λ i q. y .masks-there i q ∙ sym (look-kept table decisions after before nodes (f .front) (termOf (getD (ts d) i 0)));
+      }
+
+-- the room that the definitions which are left need
+pub room-step : (l : List ℕ) (n d : ℕ) → d < n → n ≤ length l → sumOf lengthOf (drop d (take n l)) ≡ lengthOf (getD l d 0) + sumOf lengthOf (drop (d + 1) (take n l))
+room-step l n d h k = ap (sumOf lengthOf) (part-step l n d 0 h k)
