@@ -109,7 +109,7 @@ fn term_masks<'a>(alive: &'a [u64], d: usize, n: usize) -> &'a [u64]
 // The first term from `from` on of which the mask takes in something: most terms are passed over here, so this does little else.
 fn next_live(ms: &[u64], from: usize, mask: u64) -> usize
     requires { ⌜ from ≤ length (now ms) ⌝ }
-    ensures { λ r. ⌜ (from ≤ r) × (r ≤ length (now (ms .entry))) × ((i : ℕ) → from ≤ i → i < r → bitAnd (getD (now (ms .entry)) i 0) mask ≡ 0) ⌝ }
+    ensures { λ r. ⌜ (from ≤ r) × (r ≤ length (now (ms .entry))) × ((i : ℕ) → from ≤ i → i < r → bitAnd (getD (now (ms .entry)) i 0) mask ≡ 0) × (r < length (now (ms .entry)) → bitAnd (getD (now (ms .entry)) r 0) mask ≡ 0 → ⊥) ⌝ }
 {
     let mut i = from;
     while i < ms.len() {

@@ -25,7 +25,7 @@ shared-slice-read-if1 : tie.Need-shared-slice-read-if1 Inv-loop μ-loop
 shared-slice-read-if1 c = search needs
 
 returns : tie.Need-returns Inv-loop μ-loop
-returns c = let l = c .before .before .before .loop in (l .inv .0, l .inv .1, l .inv .2)
+returns c = let l = c .before .before .before .loop in (l .inv .0, l .inv .1, l .inv .2, λ h. c .if1 .taken)
 
 add-i : tie.Need-add-i Inv-loop μ-loop
 add-i c = search needs
@@ -37,7 +37,7 @@ loop-again : tie.Need-loop-again Inv-loop μ-loop
 loop-again c = let l = c .before .before .before .loop in (omega (arith, l .inv .0), omega (arith, c .before .before .loop-test .taken), clear-more (c .before .before .before .before .args .ms .now) (c .before .before .before .before .args .mask) (c .before .before .before .before .args .from) (l .i) (l .inv .2) (c .if1 .left))
 
 returns-2 : tie.Need-returns-2 Inv-loop μ-loop
-returns-2 c = let l = c .before .loop in (l .inv .0, l .inv .1, l .inv .2)
+returns-2 c = let l = c .before .loop in (l .inv .0, l .inv .1, l .inv .2, λ h. absurd (omega (arith, c .loop-test .left)))
 
 pub next-live-spec : {M : Type 1} → statement M
 next-live-spec =
