@@ -1,4 +1,5 @@
 // The evaluator: the values of all operands under an assignment, in the writer's order.
+pub mod value;
 
 pub const SIZE: u8 = 13;
 
