@@ -3,7 +3,7 @@ use mathlib.Core.Path.{_≡_, refl, sym, ap, ap₂, _∙_, subst}
 use Prim.Native.Nat.{ℕ, zero, suc, _+_, _-_, _≤_, _<_}
 use native.Mathlib.Omega.{arith}
 use mathlib.Core.List.{List, [], _∷_, map}
-use lib.ListN.{length, getD, drop}
+use lib.ListN.{length, getD, take, drop}
 use lib.Bits.{bitXor}
 use Rattle.shift.specs.Shifts.{shiftAt, applyOf}
 use Rattle.shift.specs.declared.Shift.{Shift}
@@ -11,8 +11,9 @@ use Rattle.operand.specs.Numbers.{termOf, operandAt, termsAt, operandOf}
 use Rattle.lower.specs.Lists.{All, more}
 use Rattle.lower.specs.Accepted.{ShiftsOf}
 use Rattle.lower.specs.Values.{wordOf, moved, termValue, value}
-use Rattle.lower.proofs.Firsts.{drop-step}
+use Rattle.lower.proofs.Firsts.{drop-step, part-all}
 use Rattle.lower.proofs.Alls.{all-unmap}
+use Rattle.evaluate.specs.Steps.{Ready}
 
 pub all-get : {A : Type 0} (P : A → Type 0) (l : List A) (i : ℕ) (z : A) → All P l → i < length l → P (getD l i z)
 all-get P [] i z h l = absurd (omega arith)
@@ -53,3 +54,6 @@ module _ (old new : List ℕ) (h : ℕ) (ts : List ℕ) (e : ts ≡ termsAt old 
 
   pub terms-shifted : All ShiftsOf (operandOf old new h) → All (λ (t : ℕ). ShiftsOf (termOf t)) ts
   terms-shifted a = all-unmap ShiftsOf termOf ts (subst (All ShiftsOf) (sym terms-are) a)
+
+pub part-ready : (old new hs : List ℕ) (n i : ℕ) → All (Ready old new) (take n hs) → i < n → n ≤ length hs → Ready old new (getD hs i 0)
+part-ready old new hs n i h p q = part-all {P = Ready old new} hs n i 0 h p q
