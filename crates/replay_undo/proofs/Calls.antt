@@ -22,8 +22,7 @@ use Rattle.replay_undo.specs.Places.{leastOf, partOf, samePlaces}
 use Rattle.replay_undo.specs.Tallies.{nothingCounted, systemCounted, valuesCounted, refusalCounted}
 use Rattle.replay_undo.specs.Words.{madeWords, overwritten, laidFlags}
 use Rattle.replay_undo.specs.Values.{rowsOf, placesOf, countOf, sizesAfter, sameValues, definitionsSeen, comparedOf}
-use Rattle.replay_undo.specs.Patched as P
-use Rattle.replay_undo.specs.Patched.{PatchedValues, Judged, refusal, done, InRoom, FromCopy}
+use Rattle.replay_undo.specs.Patched.{PatchedValues, Judged, refusal, done}
 use Rattle.replay_undo.specs.Undone.{Refilled, Filled, ShortFlags, ShortWords, OnNoisy, Undone, Undo, blank, InPart, Evaluation, Against}
 use Rattle.replay_undo.specs.Attempts as A
 use Rattle.replay_undo.specs.Attempts.{OnFlags, WithFlags, WithValues, OnWords, WithWords, FromRead}
@@ -45,13 +44,6 @@ module _ (z : Sizes) (s : Stores) (words values : List ℕ) (t : Tally) (a : Fus
 
   pub judged-done : (k : Counts) (z′ : Sizes) → a ≡ F.Done k → z′ ≡ sizesAfter z k → PatchedValues z′ s words values t r → Judged z s words values t a r
   judged-done k z′ p q x = rw p (done (subst (λ (v : Sizes). PatchedValues v s words values t r) q x))
-
-module _ (slots : ℕ) (words values : List ℕ) (s : Stores) (flags : List ℕ) (t : Tally) (x : Read) (r : Tally) where
-  pub copy-unread : (number at : ℕ) → x ≡ Refused number at → r ≡ refusalCounted t 0 1 → FromCopy slots words values s flags t s flags x r
-  copy-unread number at p q = rw p (subst (FromCopy slots words values s flags t s flags (Refused number at)) (sym q) P.unread)
-
-  pub copy-read : (s′ : Stores) (flags′ : List ℕ) (z : Sizes) (n : ℕ) → x ≡ Done z n → InRoom slots words values z s flags s′ flags′ t r → FromCopy slots words values s flags t s′ flags′ x r
-  copy-read s′ flags′ z n p y = rw p (P.read y)
 
 -- ---- filling back
 

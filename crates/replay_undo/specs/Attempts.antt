@@ -32,7 +32,7 @@ module _ (file : List ℕ) (slots : ℕ) where
     pub record OnFlags (words values flags flags′ : List ℕ) (t r : Tally) : Type 0 where
       pub fused : Tally
       pub filled : Tally
-      pub fuses : Patched file slots words values flags flags′ t fused
+      pub fuses : Patched file slots z words values flags flags′ t fused
       pub undoes : Undo z s flags′ words fused filled
       pub evaluates : Evaluations z s words values filled r
 

@@ -3,10 +3,7 @@
 --   ReadIn              the file read into stores that are made for it
 --   PatchedValues       what the evaluator leaves for a patched system, compared with the values before
 --   Judged              so where fusing answers with one; a refusal is counted as wrong
---   FusedCopy           what `fuse` answers and leaves
---   InRoom              with a result store that is made for it
---   FromCopy            after the file was read; one that is not read is counted as wrong
---   Patched             from the bytes on, with the flags before and after
+--   Patched             what `read` and then `fuse` leave, in stores that are made for them; the flags before and after
 --
 -- What `read`, `fuse` and `evaluate` leave is said by their contracts: each of the relations here names what was left.
 --
@@ -18,7 +15,6 @@ use lib.ListN.{replicate}
 use Rattle.lower.specs.declared.Sizes.{Sizes}
 use Rattle.lower.specs.Stores.{Stores}
 use Rattle.house_file.specs.declared.Read.{Read}
-use Rattle.house_file.specs.declared.Read.the-variants.{Refused, Done}
 use Rattle.house_read.specs.Answer.{ReadIs}
 use Rattle.fusion.specs.declared.Counts.{Counts}
 use Rattle.fusion.specs.declared.Fused.{Fused}
@@ -47,28 +43,16 @@ pub data Judged (z : Sizes) (s : Stores) (words values : List ℕ) (t : Tally) :
   refusal : {number : ℕ} → Judged z s words values t (F.Refused number) (refusalCounted t 0 1)
   done : {k : Counts} {r : Tally} → PatchedValues (sizesAfter z k) s words values t r → Judged z s words values t (F.Done k) r
 
-module _ (slots : ℕ) (words values : List ℕ) where
-  pub record FusedCopy (z : Sizes) (l l′ : Lent) (t r : Tally) : Type 0 where
-    pub answer : Fused
-    pub fuses : Fuses slots z l l′ (toldFused answer)
-    pub judged : Judged z (output l′) words values t answer r
+abbrev pub lentWith : Stores → List ℕ → List ℕ → Lent
+lentWith s new flags = lent (s .old) new (s .ands) (s .imuls) (s .bmuls) (s .zeros) (s .dsts) (s .rhss) flags
 
-  abbrev pub lentWith : List ℕ → Stores → List ℕ → Lent
-  lentWith new s flags = lent (s .old) new (s .ands) (s .imuls) (s .bmuls) (s .zeros) (s .dsts) (s .rhss) flags
-
-  pub record InRoom (z : Sizes) (s : Stores) (flags : List ℕ) (s′ : Stores) (flags′ : List ℕ) (t r : Tally) : Type 0 where
-    pub new : List ℕ
-    pub fused : FusedCopy z (lentWith (replicate 16384 UNTOUCHED) s flags) (lentWith new s′ flags′) t r
-
-  pub data FromCopy (s : Stores) (flags : List ℕ) (t : Tally) : Stores → List ℕ → Read → Tally → Type 0 where
-    unread : {number at : ℕ} → FromCopy s flags t s flags (Refused number at) (refusalCounted t 0 1)
-    read : {s′ : Stores} {flags′ : List ℕ} {z : Sizes} {terms : ℕ} {r : Tally}
-        → InRoom z s flags s′ flags′ t r
-        → FromCopy s flags t s′ flags′ (Done z terms) r
-
-pub record Patched (file : List ℕ) (slots : ℕ) (words values flags flags′ : List ℕ) (t r : Tally) : Type 0 where
+-- before is what was read, after and new what fusing left
+pub record Patched (file : List ℕ) (slots : ℕ) (z : Sizes) (words values flags flags′ : List ℕ) (t r : Tally) : Type 0 where
   pub before : Stores
   pub after : Stores
-  pub answer : Read
-  pub reads : ReadIn file answer before
-  pub goes : FromCopy slots words values before flags t after flags′ answer r
+  pub new : List ℕ
+  pub read : Read
+  pub answer : Fused
+  pub reads : ReadIn file read before
+  pub fuses : Fuses slots z (lentWith before (replicate 16384 UNTOUCHED) flags) (lentWith after new flags′) (toldFused answer)
+  pub judged : Judged z (output (lentWith after new flags′)) words values t answer r

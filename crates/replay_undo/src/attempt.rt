@@ -31,7 +31,7 @@ fn on_flags(
 ) -> Tally
     ensures { λ r. ⌜ OnFlags (now (file .entry)) slots z (stores (now (old .entry)) [] (now (ands .entry)) (now (imuls .entry)) (now (bmuls .entry)) (now (zeros .entry)) (now (dsts .entry)) (now (rhss .entry))) (now (words .entry)) (now (values .entry)) (now (flags .entry)) (now (flags .exit)) t r ⌝ }
 {
-    let u = patched::patched(file, slots, words, values, &mut *flags, t);
+    let u = patched::patched(file, slots, z, words, values, &mut *flags, t);
     let v = back::undo(
         old,
         ands,

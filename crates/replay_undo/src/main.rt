@@ -90,6 +90,15 @@ fn print(label: &[u8], n: u64) {
     io::write_all(STDOUT_FILENO, b"\n");
 }
 
+fn print_checks(t: Tally) {
+    print(b"words that returned ", t.returned);
+    print(b"words that did not ", t.lost);
+    print(b"operand values equal ", t.equal);
+    print(b"operand values not equal ", t.unequal);
+    print(b"definitions that hold ", t.hold);
+    print(b"definitions that do not ", t.broken);
+}
+
 fn main() {
     let mut input = [0u8; MAX_INPUT];
     let n = io::read_full(STDIN_FILENO, &mut input);
@@ -98,12 +107,7 @@ fn main() {
     }
     let t = replay(&input[0..n]);
     print(b"systems fused ", t.systems);
-    print(b"words that returned ", t.returned);
-    print(b"words that did not ", t.lost);
-    print(b"operand values equal ", t.equal);
-    print(b"operand values not equal ", t.unequal);
-    print(b"definitions that hold ", t.hold);
-    print(b"definitions that do not ", t.broken);
+    print_checks(t);
     print(b"refusals right ", t.right);
     print(b"refusals wrong ", t.wrong);
     print(b"digest ", t.digest);

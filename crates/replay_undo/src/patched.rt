@@ -1,15 +1,11 @@
 // The system of a house file, read once more and fused: its values under the same words.
-ghost use mathlib.Core.List.{[]};
 ghost use Rattle.lower.specs.Stores.{stores};
-ghost use Rattle.fusion.specs.Left.{lent};
-ghost use Rattle.replay_undo.specs.Patched.{PatchedValues, Judged, FusedCopy, InRoom, FromCopy, Patched};
+ghost use Rattle.replay_undo.specs.Patched.{PatchedValues, Judged, Patched};
 use crate::places;
 use crate::tally;
 use crate::tally::Tally;
 use crate::values;
-use fusion::Counts;
 use fusion::Fused;
-use house_file::Read;
 use lower::Sizes;
 
 // How many terms the result store has.
@@ -85,147 +81,27 @@ fn judge<'a>(
     }
 }
 
-fn fused_copy(
-    old: &[u64],
-    new: &mut [u64],
-    ands: &mut [u64],
-    imuls: &mut [u64],
-    bmuls: &mut [u64],
-    zeros: &mut [u64],
-    dsts: &mut [u16],
-    rhss: &mut [u64],
-    flags: &mut [u8],
-    z: Sizes,
-    slots: u64,
-    words: &[u64],
-    values: &[u64],
-    t: Tally,
-) -> Tally
-    ensures { λ r. ⌜ FusedCopy slots (now (words .entry)) (now (values .entry)) z (lent (now (old .entry)) (now (new .entry)) (now (ands .entry)) (now (imuls .entry)) (now (bmuls .entry)) (now (zeros .entry)) (now (dsts .entry)) (now (rhss .entry)) (now (flags .entry))) (lent (now (old .exit)) (now (new .exit)) (now (ands .exit)) (now (imuls .exit)) (now (bmuls .exit)) (now (zeros .exit)) (now (dsts .exit)) (now (rhss .exit)) (now (flags .exit))) t r ⌝ }
-{
-    let answer = fusion::fuse(
-        old,
-        &mut *new,
-        &mut *ands,
-        &mut *imuls,
-        &mut *bmuls,
-        &mut *zeros,
-        &mut *dsts,
-        &mut *rhss,
-        &mut *flags,
-        z,
-        slots,
-    );
-    judge(
-        answer,
-        old,
-        &*new,
-        &*ands,
-        &*imuls,
-        &*bmuls,
-        &*zeros,
-        &*dsts,
-        &*rhss,
-        z,
-        words,
-        values,
-        t,
-    )
-}
-
-// With a result store that is made for it.
-fn in_room(
-    old: &[u64],
-    ands: &mut [u64],
-    imuls: &mut [u64],
-    bmuls: &mut [u64],
-    zeros: &mut [u64],
-    dsts: &mut [u16],
-    rhss: &mut [u64],
-    flags: &mut [u8],
-    z: Sizes,
-    slots: u64,
-    words: &[u64],
-    values: &[u64],
-    t: Tally,
-) -> Tally
-    ensures { λ r. ⌜ InRoom slots (now (words .entry)) (now (values .entry)) z (stores (now (old .entry)) [] (now (ands .entry)) (now (imuls .entry)) (now (bmuls .entry)) (now (zeros .entry)) (now (dsts .entry)) (now (rhss .entry))) (now (flags .entry)) (stores (now (old .exit)) [] (now (ands .exit)) (now (imuls .exit)) (now (bmuls .exit)) (now (zeros .exit)) (now (dsts .exit)) (now (rhss .exit))) (now (flags .exit)) t r ⌝ }
-{
-    let mut new = [places::UNTOUCHED; MAX_ROOM];
-    fused_copy(
-        old,
-        &mut new,
-        ands,
-        imuls,
-        bmuls,
-        zeros,
-        dsts,
-        rhss,
-        flags,
-        z,
-        slots,
-        words,
-        values,
-        t,
-    )
-}
-
-fn from_copy(
-    read: Read,
-    old: &[u64],
-    ands: &mut [u64],
-    imuls: &mut [u64],
-    bmuls: &mut [u64],
-    zeros: &mut [u64],
-    dsts: &mut [u16],
-    rhss: &mut [u64],
-    flags: &mut [u8],
-    slots: u64,
-    words: &[u64],
-    values: &[u64],
-    t: Tally,
-) -> Tally
-    ensures { λ r. ⌜ FromCopy slots (now (words .entry)) (now (values .entry)) (stores (now (old .entry)) [] (now (ands .entry)) (now (imuls .entry)) (now (bmuls .entry)) (now (zeros .entry)) (now (dsts .entry)) (now (rhss .entry))) (now (flags .entry)) t (stores (now (old .exit)) [] (now (ands .exit)) (now (imuls .exit)) (now (bmuls .exit)) (now (zeros .exit)) (now (dsts .exit)) (now (rhss .exit))) (now (flags .exit)) read r ⌝ }
-{
-    match read {
-        Read::Refused { number: _, at: _ } => tally::refusal_counted(t, 0, 1),
-        Read::Done { sizes, terms: _ } => in_room(
-            old,
-            ands,
-            imuls,
-            bmuls,
-            zeros,
-            dsts,
-            rhss,
-            flags,
-            sizes,
-            slots,
-            words,
-            values,
-            t,
-        ),
-    }
-}
-
 // Reads the file into stores of its own, since fusing writes over them. Leaves the flags.
 pub fn patched(
     file: &[u8],
     slots: u64,
+    z: Sizes,
     words: &[u64],
     values: &[u64],
     flags: &mut [u8],
     t: Tally,
 ) -> Tally
-    ensures { λ r. ⌜ Patched (now (file .entry)) slots (now (words .entry)) (now (values .entry)) (now (flags .entry)) (now (flags .exit)) t r ⌝ }
+    ensures { λ r. ⌜ Patched (now (file .entry)) slots z (now (words .entry)) (now (values .entry)) (now (flags .entry)) (now (flags .exit)) t r ⌝ }
 {
     let mut terms = [places::UNTOUCHED; 8192];
+    let mut new = [places::UNTOUCHED; MAX_ROOM];
     let mut ands = [places::UNTOUCHED; 3072];
     let mut imuls = [places::UNTOUCHED; 4096];
     let mut bmuls = [places::UNTOUCHED; 6144];
     let mut zeros = [places::UNTOUCHED; 1024];
     let mut dsts = [7u16; 1024];
     let mut rhss = [places::UNTOUCHED; 1024];
-    let read = house_read::read(
+    house_read::read(
         file,
         &mut terms,
         &mut ands,
@@ -235,9 +111,9 @@ pub fn patched(
         &mut dsts,
         &mut rhss,
     );
-    from_copy(
-        read,
+    let answer = fusion::fuse(
         &terms,
+        &mut new,
         &mut ands,
         &mut imuls,
         &mut bmuls,
@@ -245,7 +121,20 @@ pub fn patched(
         &mut dsts,
         &mut rhss,
         flags,
+        z,
         slots,
+    );
+    judge(
+        answer,
+        &terms,
+        &new,
+        &ands,
+        &imuls,
+        &bmuls,
+        &zeros,
+        &dsts,
+        &rhss,
+        z,
         words,
         values,
         t,
