@@ -74,21 +74,21 @@ module _ (z : Sizes) (s : Stores) where
           counted = e ∙ ap (λ (k : ℕ). refusalCounted t c (1 + k)) q;
         }
 
-  pub noise-in : (flags words other noisy other′ noisy₁ noisy′ : List ℕ) (d : ℕ) (t r : Tally) → d ≡ rowsOf (z .linears) → noisy₁ ≡ sets noisy 0 (take (length noisy) words) → noisy′ ≡ overwritten (s .dsts) flags d noisy₁ → other′ ≡ laidFlags (s .dsts) flags d other → Undone z s flags other′ noisy′ words t r → OnNoisy z s flags words other noisy other′ noisy′ t r
-  noise-in flags words other noisy other′ noisy₁ noisy′ d t r p q e h x =
+  pub noise-in : (flags words all other noisy other′ noisy₁ noisy′ : List ℕ) (d : ℕ) (t r : Tally) → d ≡ rowsOf (z .linears) → noisy₁ ≡ sets noisy 0 (take (length noisy) words) → noisy′ ≡ overwritten (s .dsts) flags d noisy₁ → other′ ≡ laidFlags (s .dsts) flags d other → Undone z s flags other′ all noisy′ words t r → OnNoisy z s flags words all other noisy other′ noisy′ t r
+  noise-in flags words all other noisy other′ noisy₁ noisy′ d t r p q e h x =
       record {
         overwrites = e ∙ ap (λ (k : ℕ). overwritten (s .dsts) flags k noisy₁) p ∙ ap (overwritten (s .dsts) flags (rowsOf (z .linears))) q;
         lays = h ∙ ap (λ (k : ℕ). laidFlags (s .dsts) flags k other) p;
         undone = x;
       }
 
-  pub in-two-stores : (flags words other noisy : List ℕ) (t r : Tally) (n m : ℕ) → n ≡ leastOf (length words) 4096 → m ≡ leastOf (length words) 4096 → OnNoisy z s flags words (take n (replicate 4096 201)) (take m (replicate 4096 0)) other noisy t r → Undo z s flags words t r
-  in-two-stores flags words other noisy t r n m p q x =
+  -- the three parts are as long
+  pub in-stores : (flags words other noisy : List ℕ) (t r : Tally) (n : ℕ) → n ≡ leastOf (length words) 4096 → OnNoisy z s flags words (take n (replicate 4096 201)) (take n (replicate 4096 201)) (take n (replicate 4096 0)) other noisy t r → Undo z s flags words t r
+  in-stores flags words other noisy t r n p x =
       record {
         other = other;
         noisy = noisy;
-        on-noisy = subst (λ (k : ℕ). OnNoisy z s flags words (take k (replicate 4096 201)) (take (leastOf (length words) 4096) (replicate 4096 0)) other noisy t r) p
-            (subst (λ (k : ℕ). OnNoisy z s flags words (take n (replicate 4096 201)) (take k (replicate 4096 0)) other noisy t r) q x);
+        on-noisy = subst (λ (k : ℕ). OnNoisy z s flags words (take k (replicate 4096 201)) (take k (replicate 4096 201)) (take k (replicate 4096 0)) other noisy t r) p x;
       }
 
 -- ---- the evaluator

@@ -5,7 +5,7 @@
 --   Filled              so, in a store that is made for it
 --   Returns             every word has to return
 --   ShortFlags, ShortWords    a flag or a word too few: 13, and the words as they were
---   Undone              all four, with the flags of fusing and with others
+--   Undone              all of it, with the flags of fusing, with others, and with all wires committed, where each word has to stay
 --   Undo                with the words of all uncommitted defined wires overwritten, and flags 201 on wires that are not defined
 --   asTold              1 where the evaluator answers what is told and all places are the expected ones
 --   InPart, Evaluation  what the evaluator answers and leaves, with room for so many values, counted
@@ -61,25 +61,27 @@ module _ (z : Sizes) (s : Stores) where
     pub filled : Filled flags (take (length noisy - 1) noisy) SIZE (take (length noisy - 1) noisy) same
     pub counted : r ≡ refusalCounted t same (1 + (length noisy - 1))
 
-  pub record Undone (flags other noisy words : List ℕ) (t r : Tally) : Type 0 where
+  pub record Undone (flags other all noisy words : List ℕ) (t r : Tally) : Type 0 where
     pub once : Tally
     pub twice : Tally
     pub thrice : Tally
+    pub fourth : Tally
     pub returned : Returns flags noisy words t once
     pub again : Returns other noisy words once twice
-    pub flags-short : ShortFlags flags noisy twice thrice
-    pub words-short : ShortWords flags noisy thrice r
+    pub stayed : Returns all noisy noisy twice thrice
+    pub flags-short : ShortFlags flags noisy thrice fourth
+    pub words-short : ShortWords flags noisy fourth r
 
   -- other and noisy are what is lent for them, other′ and noisy′ what is then there
-  pub record OnNoisy (flags words other noisy other′ noisy′ : List ℕ) (t r : Tally) : Type 0 where
+  pub record OnNoisy (flags words all other noisy other′ noisy′ : List ℕ) (t r : Tally) : Type 0 where
     pub overwrites : noisy′ ≡ overwritten (s .dsts) flags (rowsOf (z .linears)) (sets noisy 0 (take (length noisy) words))
     pub lays : other′ ≡ laidFlags (s .dsts) flags (rowsOf (z .linears)) other
-    pub undone : Undone flags other′ noisy′ words t r
+    pub undone : Undone flags other′ all noisy′ words t r
 
   pub record Undo (flags words : List ℕ) (t r : Tally) : Type 0 where
     pub other : List ℕ
     pub noisy : List ℕ
-    pub on-noisy : OnNoisy flags words (take (wiresOf words) (replicate 4096 201)) (take (wiresOf words) (replicate 4096 0)) other noisy t r
+    pub on-noisy : OnNoisy flags words (take (wiresOf words) (replicate 4096 201)) (take (wiresOf words) (replicate 4096 201)) (take (wiresOf words) (replicate 4096 0)) other noisy t r
 
 unfoldable pub asTold : Evaluated → ℕ → List ℕ → List ℕ → ℕ
 asTold answer told out expected =

@@ -189,7 +189,8 @@ fn short_words(
     tally::refusal_counted(t, c, 1 + n)
 }
 
-// With the flags of fusing, and with such flags as say something else of the wires that are not defined; and what is refused.
+// With the flags of fusing, and with such flags as say something else of the wires that are not defined; with all wires committed, where no
+// word changes; and what is refused.
 fn undone(
     old: &[u64],
     ands: &[u64],
@@ -201,11 +202,12 @@ fn undone(
     z: Sizes,
     flags: &[u8],
     other: &[u8],
+    all: &[u8],
     noisy: &[u64],
     words: &[u64],
     t: Tally,
 ) -> Tally
-    ensures { λ r. ⌜ Undone z (stores (now (old .entry)) [] (now (ands .entry)) (now (imuls .entry)) (now (bmuls .entry)) (now (zeros .entry)) (now (dsts .entry)) (now (rhss .entry))) (now (flags .entry)) (now (other .entry)) (now (noisy .entry)) (now (words .entry)) t r ⌝ }
+    ensures { λ r. ⌜ Undone z (stores (now (old .entry)) [] (now (ands .entry)) (now (imuls .entry)) (now (bmuls .entry)) (now (zeros .entry)) (now (dsts .entry)) (now (rhss .entry))) (now (flags .entry)) (now (other .entry)) (now (all .entry)) (now (noisy .entry)) (now (words .entry)) t r ⌝ }
 {
     let u = returns(
         old,
@@ -235,7 +237,21 @@ fn undone(
         words,
         u,
     );
-    let w = short_flags(
+    let w = returns(
+        old,
+        ands,
+        imuls,
+        bmuls,
+        zeros,
+        dsts,
+        rhss,
+        z,
+        all,
+        noisy,
+        noisy,
+        v,
+    );
+    let x = short_flags(
         old,
         ands,
         imuls,
@@ -246,7 +262,7 @@ fn undone(
         z,
         flags,
         noisy,
-        v,
+        w,
     );
     short_words(
         old,
@@ -259,7 +275,7 @@ fn undone(
         z,
         flags,
         noisy,
-        w,
+        x,
     )
 }
 
@@ -275,12 +291,13 @@ fn on_noisy(
     z: Sizes,
     flags: &[u8],
     words: &[u64],
+    all: &[u8],
     other: &mut [u8],
     noisy: &mut [u64],
     t: Tally,
 ) -> Tally
     requires { ⌜ length (now noisy) ≤ length (now words) ⌝ }
-    ensures { λ r. ⌜ OnNoisy z (stores (now (old .entry)) [] (now (ands .entry)) (now (imuls .entry)) (now (bmuls .entry)) (now (zeros .entry)) (now (dsts .entry)) (now (rhss .entry))) (now (flags .entry)) (now (words .entry)) (now (other .entry)) (now (noisy .entry)) (now (other .exit)) (now (noisy .exit)) t r ⌝ }
+    ensures { λ r. ⌜ OnNoisy z (stores (now (old .entry)) [] (now (ands .entry)) (now (imuls .entry)) (now (bmuls .entry)) (now (zeros .entry)) (now (dsts .entry)) (now (rhss .entry))) (now (flags .entry)) (now (words .entry)) (now (all .entry)) (now (other .entry)) (now (noisy .entry)) (now (other .exit)) (now (noisy .exit)) t r ⌝ }
 {
     let n = noisy.len();
     let d = values::rows(z.linears);
@@ -298,6 +315,7 @@ fn on_noisy(
         z,
         flags,
         &*other,
+        all,
         &*noisy,
         words,
         t,
@@ -320,6 +338,7 @@ pub fn undo(
     ensures { λ r. ⌜ Undo z (stores (now (old .entry)) [] (now (ands .entry)) (now (imuls .entry)) (now (bmuls .entry)) (now (zeros .entry)) (now (dsts .entry)) (now (rhss .entry))) (now (flags .entry)) (now (words .entry)) t r ⌝ }
 {
     let m = places::least(words.len(), lower::MAX_WIRES);
+    let all = [201u8; lower::MAX_WIRES];
     let mut other = [201u8; lower::MAX_WIRES];
     let mut noisy = [0u64; lower::MAX_WIRES];
     on_noisy(
@@ -333,6 +352,7 @@ pub fn undo(
         z,
         flags,
         words,
+        &all[0..m],
         &mut other[0..m],
         &mut noisy[0..m],
         t,

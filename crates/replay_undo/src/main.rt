@@ -3,8 +3,8 @@
 // number of them, and for each the house file and the slots. Each is gone through with four assignments: all zeros, all ones, and two of any
 // words, each filled back so that all definitions hold. Looked at: that they do; that the patched system's definitions hold, stranded ones
 // too, and its other operands have the same values, up to the order of the constraints; that each word returns when the words of all
-// uncommitted defined wires are overwritten and filled back with the flags of fusing; and that what is too short is refused and nothing
-// written. What is printed: how many of each were so and how many not, and a digest of all values.
+// uncommitted defined wires are overwritten and filled back with the flags of fusing, and stays when all wires are committed; and that what is
+// too short is refused and nothing written. What is printed: how many of each were so and how many not, and a digest of all values.
 ghost use mathlib.Core.Path.{_≡_};
 ghost use Prim.Native.Nat.{_+_, _^_, _≤_, _<_};
 ghost use lib.ListN.{length};
@@ -91,8 +91,8 @@ fn print(label: &[u8], n: u64) {
 }
 
 fn print_checks(t: Tally) {
-    print(b"words that returned ", t.returned);
-    print(b"words that did not ", t.lost);
+    print(b"words as they have to be ", t.returned);
+    print(b"words otherwise ", t.lost);
     print(b"operand values equal ", t.equal);
     print(b"operand values not equal ", t.unequal);
     print(b"definitions that hold ", t.hold);

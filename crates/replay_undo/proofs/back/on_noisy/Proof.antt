@@ -1,4 +1,4 @@
--- The words and the flags, and then all four. Assumes nothing.
+-- The words and the flags, and then all of it. Assumes nothing.
 use Rattle.replay_undo.proofs.Calls.{noise-in}
 use borrow.Author.Needs.{needs}
 use Rattle.replay_undo.proofs.back.on_noisy.Statement.{statement}
@@ -26,7 +26,7 @@ same-length-2 : tie.Need-same-length-2
 same-length-2 c = search needs
 
 returns : tie.Need-returns
-returns c = noise-in _ _ _ _ _ _ _ _ _ _ _ _ (c .before .before .before .before .before .before .before .before .before .before .before .before .before .before .before .rows .ensures .0) (c .before .before .before .before .before .before .before .before .before .before .before .before .before .extend .ensures) (c .before .before .before .before .before .before .before .before .before .overwrite .ensures) (c .before .before .before .before .before .lay-flags .ensures) (c .undone .ensures)
+returns c = noise-in _ _ _ _ _ _ _ _ _ _ _ _ _ (c .before .before .before .before .before .before .before .before .before .before .before .before .before .before .before .rows .ensures .0) (c .before .before .before .before .before .before .before .before .before .before .before .before .before .extend .ensures) (c .before .before .before .before .before .before .before .before .before .overwrite .ensures) (c .before .before .before .before .before .lay-flags .ensures) (c .undone .ensures)
 
 pub on-noisy-spec : {M : Type 1} → statement M
 on-noisy-spec =
