@@ -1,6 +1,6 @@
 // Shows by running that removing is undone by recomputing. The input is a part of the harness's fuse.bin: of its vectors that are not
-// refused and have the whole room, those with a house file of at most 2,000 bytes, and the circuits keccak, blake3 and ghash. It is the
-// number of them, and for each the house file and the slots. Each is gone through with four assignments: all zeros, all ones, and two of any
+// refused and have the whole room, those with a house file of at most 2,000 bytes, and the circuits keccak, blake3 and ghash; and the circuit of
+// docs/MISSING.md, a failed acquisition, at one slot and two. It is the number of them, and for each the house file and the slots. Each is gone through with four assignments: all zeros, all ones, and two of any
 // words, each filled back so that all definitions hold. Looked at: that they do; that the patched system's definitions hold, stranded ones
 // too, and its other operands have the same values, up to the order of the constraints; that each word returns when the words of all
 // uncommitted defined wires are overwritten and filled back with the flags of fusing, and stays when all wires are committed; and that what is
