@@ -1,0 +1,3 @@
+-- Modules that belong to no one function.
+pub mod Kit
+pub mod Laws
