@@ -32,6 +32,10 @@ module _ (l : List Definition) (ds rs : List ℕ) where
   pub back-length : (k : ℕ) → length (reloaded l ds rs k) ≡ length l
   back-length k = length-sets l 0 (made (take k ds) (take k rs))
 
+  pub back-none : reloaded l ds rs 0 ≡ l
+  unfolding made
+  back-none = refl
+
 abbrev nth : List ℕ → List ℕ → ℕ → Definition
 nth ds rs k = record { rhs = getD rs k 0; dst = getD ds k 0 }
 

@@ -1,6 +1,6 @@
 -- `records::unload` meets its contract: a walk of its MIR, by hand, with a loop. The three borrows are opened once, before the loop, and shut after it; where t records are left, the numbers of m - t are copied. Assumes nothing.
 use native.Mathlib.Omega.{arith}
-use Rattle.records.proofs.Kit.{_≡_, refl, sym, ap, subst, ⊎-elim, Bool, ℕ, _-_, _+_, _<_, _≤_, _^_, [], _∷_, List, length, getD, List·getD-map, length-map, Nat·lt-wfRel, lt-ltb, le-ltb, URA, fullShare, Ty, named, mut, imm, w16, w64, tyInt, tyBool, tyPtr, tyRef, tyUnit, Val, vunit, vbool, vint, vptr, SProp, ent, Lft, Share, GName, Fml, ftrue, fsep, fat, froom, fdies, flft, fobs, fauth, fbor, fobor, fshr-bor, Memory, Routine, Heap, Env, WpFn, Tables, afterTurn, Atoms, Fun, givenOf, tables, tablesOf, Given, Item, ‵, atRet, _⊛_, ⋆, _$_, _∵_, !, qed, by, move, keep, drop, use1, split, join, rewrite, fsplit, fjoin, feqI, suffices, frame, done, look, look-raw, init, store, forget, stop, hop, fld, from, load, lit, unit-lit, of-opd, bin, assigns, assigns-last, first, blocks, loops, again, stays, leaves-loop, exec, returns, enter, alloc1, alloc0, params1, pass1, pass0, free1, free0, whole, sub, look-in, arr-parts, WpFn-mono, RattleType, owns, pointee, shares, pureI, Is, shows, uint-vals, uint-tells, uint-makes, u16, u64, usize, RefT, sliceTy, sliceVal, slice-vals, mut-slice-tells, shr-slice-tells, shr-slice-copy, MutSlice, ShrSlice, Room, heres, codedHoleys, at-slice, Held, row, place-is, elem-out, elem-back, elem-put, opens-slice, closes-slice, looks-slice, shuts-slice, owned, nothing, Vals, onEntry, Meets, tripleOf, entered, says, needs, Stays, stay-none, stay-slice, stay-none-slice, walkOf, goes-none, goes-slice, goes-none-slice, Walks, ends-at, walked, walk-meets, yes, plain}
+use Rattle.records.proofs.Kit.{_≡_, refl, sym, ap, subst, ⊎-elim, Bool, ℕ, _-_, _+_, _<_, _≤_, _^_, [], _∷_, List, length, getD, List·getD-map, length-map, Nat·lt-wfRel, lt-ltb, le-ltb, URA, fullShare, Ty, named, mut, imm, w16, w64, tyInt, tyBool, tyPtr, tyRef, tyUnit, Val, vunit, vbool, vint, vptr, SProp, ent, Lft, Share, GName, Fml, ftrue, fat, froom, fdies, flft, fobs, fauth, fbor, fobor, fshr-bor, Memory, Routine, Heap, Env, WpFn, Tables, afterTurn, Atoms, Fun, givenOf, tables, tablesOf, Given, Item, ‵, atRet, _⊛_, ⋆, _$_, _∵_, !, qed, by, move, keep, drop, use1, split, join, rewrite, fsplit, fjoin, feqI, suffices, frame, done, look, look-raw, init, store, forget, stop, hop, fld, from, load, lit, unit-lit, of-opd, bin, assigns, assigns-last, first, blocks, loops, again, stays, leaves-loop, exec, returns, enter, alloc1, alloc0, params1, pass1, pass0, free1, free0, whole, sub, look-in, arr-parts, WpFn-mono, RattleType, owns, pointee, shares, pureI, Is, shows, uint-vals, uint-tells, uint-makes, u16, u64, usize, RefT, sliceTy, sliceVal, slice-vals, mut-slice-tells, shr-slice-tells, shr-slice-copy, MutSlice, ShrSlice, Room, heres, codedHoleys, at-slice, Held, row, place-is, elem-out, elem-back, elem-put, opens-slice, closes-slice, looks-slice, shuts-slice, owned, nothing, Vals, onEntry, Meets, tripleOf, entered, says, needs, Stays, stay-none, stay-slice, stay-none-slice, walkOf, goes-none, goes-slice, goes-none-slice, Walks, ends-at, walked, walk-meets, yes, plain}
 use denote.Struct.Laws as LL
 use Rattle.records.specs.Records.{dstsOf, rhssOf, unloaded}
 use Rattle.records.specs.declared.Definition.{Definition}
