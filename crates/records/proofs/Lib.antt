@@ -1,3 +1,5 @@
 -- Modules that belong to no one function.
 pub mod Kit
 pub mod Laws
+pub mod Parts
+pub mod Arrays
