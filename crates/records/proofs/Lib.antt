@@ -3,3 +3,4 @@ pub mod Kit
 pub mod Laws
 pub mod Parts
 pub mod Arrays
+pub mod Shared

@@ -4,8 +4,11 @@ ghost use Prim.Native.Nat.{_≤_};
 ghost use mathlib.Core.List.{[]};
 ghost use lib.ListN.{length, take};
 ghost use Rattle.lower.specs.Stores.{stores};
+ghost use Rattle.fusion.specs.Left.{lent};
+ghost use Rattle.fusion.specs.Answer.{toldFused, Fuses};
 ghost use Rattle.fill_back.specs.Filling.{FillsIs};
-ghost use Rattle.records.specs.Records.{dstsOf, rhssOf, storesBy, unloaded, reloaded};
+ghost use Rattle.records.specs.Records.{dstsOf, rhssOf, storesBy, lentBy, unloaded, reloaded};
+use fusion::Fused;
 use lower::Sizes;
 
 // A definition: its right side, as an operand's number, and its destination wire. The one place where its layout stands.
@@ -116,4 +119,75 @@ pub fn fill_back_records(
         flags,
         assignment,
     )
+}
+
+// Fusing over the first `len` numbers of each kind.
+fn fuse_numbers(
+    old: &[u64],
+    new: &mut [u64],
+    ands: &mut [u64],
+    imuls: &mut [u64],
+    bmuls: &mut [u64],
+    zeros: &mut [u64],
+    dsts: &mut [u16],
+    rhss: &mut [u64],
+    len: usize,
+    flags: &mut [u8],
+    z: Sizes,
+    slots: u64,
+) -> Fused
+    requires { ⌜ (len ≤ length (now dsts)) × (len ≤ length (now rhss)) ⌝ }
+    ensures { λ r. ⌜ Fuses slots z (lent (now (old .entry)) (now (new .entry)) (now (ands .entry)) (now (imuls .entry)) (now (bmuls .entry)) (now (zeros .entry)) (take len (now (dsts .entry))) (take len (now (rhss .entry))) (now (flags .entry))) (lent (now (old .exit)) (now (new .exit)) (now (ands .exit)) (now (imuls .exit)) (now (bmuls .exit)) (now (zeros .exit)) (take len (now (dsts .exit))) (take len (now (rhss .exit))) (now (flags .exit))) (toldFused r) ⌝ }
+{
+    fusion::fuse(
+        old,
+        &mut *new,
+        &mut *ands,
+        &mut *imuls,
+        &mut *bmuls,
+        &mut *zeros,
+        &mut dsts[0..len],
+        &mut rhss[0..len],
+        &mut *flags,
+        z,
+        slots,
+    )
+}
+
+// `fuse`, where the definitions are records. All of them are made anew, so a refusal, which leaves each number, leaves each record.
+pub fn fuse_records(
+    old: &[u64],
+    new: &mut [u64],
+    ands: &mut [u64],
+    imuls: &mut [u64],
+    bmuls: &mut [u64],
+    zeros: &mut [u64],
+    defs: &mut [Definition],
+    flags: &mut [u8],
+    z: Sizes,
+    slots: u64,
+) -> Fused
+    requires { ⌜ length (now defs) ≤ 1024 ⌝ }
+    ensures { λ r. ⌜ Fuses slots z (lentBy (now (old .entry)) (now (new .entry)) (now (ands .entry)) (now (imuls .entry)) (now (bmuls .entry)) (now (zeros .entry)) (now (defs .entry)) (now (flags .entry))) (lentBy (now (old .exit)) (now (new .exit)) (now (ands .exit)) (now (imuls .exit)) (now (bmuls .exit)) (now (zeros .exit)) (now (defs .exit)) (now (flags .exit))) (toldFused r) ⌝ }
+{
+    let len = defs.len();
+    let mut dsts = no_dsts();
+    let mut rhss = no_rhss();
+    unload(&*defs, len, &mut dsts, &mut rhss);
+    let fused = fuse_numbers(
+        old,
+        new,
+        ands,
+        imuls,
+        bmuls,
+        zeros,
+        &mut dsts,
+        &mut rhss,
+        len,
+        flags,
+        z,
+        slots,
+    );
+    reload(defs, &dsts, &rhss, len);
+    fused
 }
