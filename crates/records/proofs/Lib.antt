@@ -4,3 +4,4 @@ pub mod Laws
 pub mod Parts
 pub mod Arrays
 pub mod Shared
+pub mod Blank

@@ -2,6 +2,7 @@
 use native.Mathlib.Omega.{arith}
 use Rattle.records.proofs.Kit.{_≡_, refl, ap, _∙_, ℕ, _-_, _<_, _≤_, _^_, [], _∷_, List, length, length-map, take, URA, fullShare, named, w16, w64, tyInt, erased, w8, tyArray, Val, vint, SProp, ent, id⊢, Lft, Share, GName, Fml, ftrue, fat, froom, flft, flent, Memory, Routine, Heap, WpFn, Tables, Calls, Loops, Atoms, Fun, fact, givenOf, tables, tablesOf, Given, Item, ‵, _⊛_, ⋆, _$_, _∵_, !, qed, by, move, keep, drop, use1, split, join, rewrite, fsplit, fjoin, suffices, frame, done, raw, some, later, cut, use0, use2, use3, pick, await, feqL, look, init, forget, stop, hop, fld, from, load, of-opd, and-then, no-more, assigns, returns, enter, alloc1, alloc0, params1, pass1, pass0, free1, free0, addr, land, agg, whole, sub, look-in, WpFn-mono, FmC, fmOf, RattleType, owns, Is, shows, uint-makes, uint-lawful, nothing-lawful, u16, u64, usize, u8, unit, RefT, sliceVal, slice-vals, mut-slice-tells, shr-slice-tells, MutSlice, ShrSlice, Room, finally, Held, owned, nothing, only, peeks, heard, Vals, onEntry, Meets, tripleOf, entered, cited, says, needs, Stays, walkOf, Walks, ends-at, walked, walk-meets, gave-slice, stay-dropped, goes-gave-slice, goes-dropped, yes, plain, shrSliceOf, lft-new, lft-end, lent-back, Array, array-lawful, Contract, Triple, calls-at, ensured, lasts}
 use Rattle.records.proofs.Arrays.{InMemory, array-in, array-room, lends-mut, mut-back, lends-shr, big}
+use Rattle.records.proofs.Blank.{NoDsts, NoRhss, Unload, blank-dsts, blank-rhss, fits, room16, room64}
 use Rattle.records.proofs.Parts.{front-all, fills-same}
 use denote.Struct.Laws as LL
 use Rattle.lower.specs.declared.Sizes.{Sizes}
@@ -36,28 +37,10 @@ use Rattle.records.proofs.fill_back_records.Code as code
 abbrev R : RattleType
 R = T.the-row
 
-fits : 1024 < 2 ^ 64
-fits = omega arith
-
-room16 : Room u16 1024
-room16 = (omega arith, omega arith)
-
-room64 : Room u64 1024
-room64 = (omega arith, omega arith)
-
 abbrev stayed : Stays (entry.ended .signature .params) (entry.ended .kept)
 stayed = (stay-dropped (shrSliceOf (0 ∷ []) tt (plain (λ _. u64))) yes, (stay-dropped (shrSliceOf (1 ∷ []) tt (plain (λ _. u64))) yes, (stay-dropped (shrSliceOf (2 ∷ []) tt (plain (λ _. u64))) yes, (stay-dropped (shrSliceOf (3 ∷ []) tt (plain (λ _. u64))) yes, (stay-dropped (shrSliceOf (4 ∷ []) tt (plain (λ _. u64))) yes, (stay-dropped (shrSliceOf (5 ∷ []) tt (plain (λ _. R))) yes, (stay-dropped (plain (λ _. Z.the-row)) yes, (stay-dropped (shrSliceOf (6 ∷ []) tt (plain (λ _. u8))) yes, (gave-slice (7 ∷ []) tt (plain (λ _. u64)), tt)))))))))
 
--- the contracts that the proof cites
-abbrev NoDsts : {M : Type 1} (𝓤 : URA M) (H : Heap 𝓤) (A : Atoms 𝓤) (mem : Memory → SProp 𝓤) (run : Routine → Fun 𝓤) → Contract 𝓤
-NoDsts 𝓤 H A mem run = tripleOf 𝓤 H A no-dsts.signature (no-dsts.spec 𝓤 H A mem run)
-
-abbrev NoRhss : {M : Type 1} (𝓤 : URA M) (H : Heap 𝓤) (A : Atoms 𝓤) (mem : Memory → SProp 𝓤) (run : Routine → Fun 𝓤) → Contract 𝓤
-NoRhss 𝓤 H A mem run = tripleOf 𝓤 H A no-rhss.signature (no-rhss.spec 𝓤 H A mem run)
-
-abbrev Unload : {M : Type 1} (𝓤 : URA M) (H : Heap 𝓤) (A : Atoms 𝓤) (mem : Memory → SProp 𝓤) (run : Routine → Fun 𝓤) → Contract 𝓤
-Unload 𝓤 H A mem run = tripleOf 𝓤 H A unload.signature (unload.spec 𝓤 H A mem run)
-
+-- the other contracts that the proof cites
 abbrev Fill : {M : Type 1} (𝓤 : URA M) (H : Heap 𝓤) (A : Atoms 𝓤) (mem : Memory → SProp 𝓤) (run : Routine → Fun 𝓤) → Contract 𝓤
 Fill 𝓤 H A mem run = tripleOf 𝓤 H A fill.signature (fill.spec 𝓤 H A mem run)
 
@@ -138,12 +121,6 @@ module _ {M : Type 1} (𝓤 : URA M) (H : Heap 𝓤) (A : Atoms 𝓤) (W : Given
   Own₉ = MutSlice (named 7) κ₉ u64 .own x₉ (v₉ ∷ [])
 
   -- ---- what each callee asks
-  blank-u16 : ent 𝓤 (⋆ 𝓤 H A []) (NoDsts 𝓤 H A mem run .pre ((tt, tt, tt, tt, tt), tt))
-  blank-u16 = qed W [] ∵ nothing ! $ nothing ! $ join ! $ frame ! $ done !
-
-  blank-u64 : ent 𝓤 (⋆ 𝓤 H A []) (NoRhss 𝓤 H A mem run .pre ((tt, tt, tt, tt, tt), tt))
-  blank-u64 = qed W [] ∵ nothing ! $ nothing ! $ join ! $ frame ! $ done !
-
   module _ (b₁ b₂ ν ν′ : ℕ) (δ δ′ : GName) (ys ys′ : List ℕ) where
     abbrev toU : Unload 𝓤 H A mem run .Ghost
     toU = (((κ₆, (ν ∷ [], (ν′ ∷ [], tt))), (q₆, (fullShare, (fullShare, tt))), tt, (x₆, (len, (record { ptr = (b₁, 0); name = δ; now = ys }, (record { ptr = (b₂, 0); name = δ′; now = ys′ }, tt)))), (v₆ ∷ [], (vint w64 len ∷ [], (sliceVal (b₁, 0) 1024 ∷ [], (sliceVal (b₂, 0) 1024 ∷ [], tt))))), tt)
@@ -182,11 +159,11 @@ module _ {M : Type 1} (𝓤 : URA M) (H : Heap 𝓤) (A : Atoms 𝓤) (W : Given
         assigns ! (of-opd ! (load ! (from ! (fld ! refl (stop !))) (look-in ! 38 (sub ! 1 refl (whole !))))) (from ! (stop !)) (init ! 30 refl (tt, record { fits = room₆ .0 })) $
         move ! (52 ∷ []) $ split ! $ move ! (1 ∷ []) $ split ! $ move ! (1 ∷ []) $ split ! $ move ! (1 ∷ []) $ split ! $ move ! (1 ∷ []) $ split ! $ move ! (1 ∷ []) $ split ! $ move ! (1 ∷ []) $ split ! $ move ! (1 ∷ []) $ split ! $ move ! (1 ∷ []) $ drop ! $ move ! (60 ∷ []) $ fsplit ! $ move ! (1 ∷ []) $ fsplit ! $ move ! (1 ∷ []) $ fsplit ! $ move ! (1 ∷ []) $ fsplit ! $ move ! (1 ∷ []) $ fsplit ! $ move ! (1 ∷ []) $ fsplit ! $ move ! (1 ∷ []) $ fsplit ! $ drop ! $ fsplit ! $ move ! (1 ∷ []) $ fsplit ! $ move ! (1 ∷ []) $ drop ! $
         -- the two local arrays
-        use0 W (raw (NoDsts 𝓤 H A mem run .pre ((tt, tt, tt, tt, tt), tt))) blank-u16 $
+        use0 W (raw (NoDsts 𝓤 H A mem run .pre ((tt, tt, tt, tt, tt), tt))) (blank-dsts 𝓤 H A mem run W) $
         calls-at ! fm (NoDsts 𝓤 H A mem run) known₁ ((tt, tt, tt, tt, tt), tt) (no-more !) (λ u₁. use1 W (later (some (λ (r : List ℕ). (‵ ftrue ⊛ ‵ (Array u16 1024 .own r (u₁ ∷ []))) ⊛ raw (ensured 𝓤 H A no-dsts.ended (no-dsts.clauses 𝓤 H A mem run) tt tt tt r)))) (id⊢ 𝓤 _) $ await ! tt $ pick ! (λ xs₁. split ! $ move ! (1 ∷ []) $ drop ! $ split ! $ drop ! $
         peeks ! (Array u16 1024) (Is (Array u16 1024)) (shows 𝓤 H A (Array u16 1024)) xs₁ (u₁ ∷ []) (λ is₁. land ! (from ! (stop !)) (init ! 41 refl (array-lawful 𝓤 H A W u16 (uint-lawful 𝓤 H A W w16) 1024 .typed xs₁ _ is₁ .0)) $
         assigns ! (of-opd ! (load ! (from ! (stop !)) (look ! 41 refl))) (from ! (stop !)) (init ! 45 refl (array-lawful 𝓤 H A W u16 (uint-lawful 𝓤 H A W w16) 1024 .typed xs₁ _ is₁ .0)) $ move ! (45 ∷ 0 ∷ []) $ use2 W (‵ (InMemory u16 1024 l₁₁ xs₁)) (array-in 𝓤 H A W u16 1024 l₁₁ tt xs₁ u₁) $
-        use0 W (raw (NoRhss 𝓤 H A mem run .pre ((tt, tt, tt, tt, tt), tt))) blank-u64 $
+        use0 W (raw (NoRhss 𝓤 H A mem run .pre ((tt, tt, tt, tt, tt), tt))) (blank-rhss 𝓤 H A mem run W) $
         calls-at ! fm (NoRhss 𝓤 H A mem run) known₂ ((tt, tt, tt, tt, tt), tt) (no-more !) (λ u₂. use1 W (later (some (λ (r : List ℕ). (‵ ftrue ⊛ ‵ (Array u64 1024 .own r (u₂ ∷ []))) ⊛ raw (ensured 𝓤 H A no-rhss.ended (no-rhss.clauses 𝓤 H A mem run) tt tt tt r)))) (id⊢ 𝓤 _) $ await ! tt $ pick ! (λ xs₂. split ! $ move ! (1 ∷ []) $ drop ! $ split ! $ drop ! $
         peeks ! (Array u64 1024) (Is (Array u64 1024)) (shows 𝓤 H A (Array u64 1024)) xs₂ (u₂ ∷ []) (λ is₂. land ! (from ! (stop !)) (init ! 40 refl (array-lawful 𝓤 H A W u64 (uint-lawful 𝓤 H A W w64) 1024 .typed xs₂ _ is₂ .0)) $
         assigns ! (of-opd ! (load ! (from ! (stop !)) (look ! 40 refl))) (from ! (stop !)) (init ! 44 refl (array-lawful 𝓤 H A W u64 (uint-lawful 𝓤 H A W w64) 1024 .typed xs₂ _ is₂ .0)) $ move ! (44 ∷ 0 ∷ []) $ use2 W (‵ (InMemory u64 1024 l₁₂ xs₂)) (array-in 𝓤 H A W u64 1024 l₁₂ tt xs₂ u₂) $
