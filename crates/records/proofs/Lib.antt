@@ -1,0 +1,7 @@
+-- Modules that belong to no one function.
+pub mod Kit
+pub mod Laws
+pub mod Parts
+pub mod Arrays
+pub mod Shared
+pub mod Blank

@@ -1,0 +1,105 @@
+-- The first numbers of a longer slice are the records' numbers, and records made of numbers have those. Assumes nothing.
+use mathlib.Core.Path.{_≡_, refl, sym, ap, subst, _∙_}
+use Prim.Native.Nat.{ℕ, zero, suc, _+_, _-_, _≤_}
+use native.Mathlib.Nat.{sub-zero}
+use mathlib.Core.List.{List, [], _∷_, _++_, map, append-nil}
+use native.Mathlib.Omega.{arith}
+use lib.ListN.{length, take, drop, set, drop-of-length-le}
+use lib.Seq.{sets, sets-eq, take-all, take-append-seam, length-take-le}
+use Rattle.word.specs.Answers.{Told}
+use Rattle.lower.specs.declared.Sizes.{Sizes}
+use Rattle.lower.specs.Stores.{stores}
+use Rattle.fusion.specs.Left.{lent}
+use Rattle.fusion.specs.Answer.{Fuses}
+use Rattle.fill_back.specs.Filling.{FillsIs}
+use Rattle.records.specs.Records.{dstsOf, rhssOf, unloaded, made, reloaded}
+use Rattle.records.specs.declared.Definition.{Definition}
+
+-- all of ns stands in front
+pub front-all : (l ns : List ℕ) (n : ℕ) → length ns ≡ n → n ≤ length l → take n (unloaded l ns n) ≡ ns
+front-all l ns n e h =
+    let k : take n ns ≡ ns = take-all n ns (omega (arith, e)) in
+    ap (λ (vs : List ℕ). take n (sets l 0 vs)) k
+    ∙ ap (take n) (sets-eq ns l 0 (omega (arith, e, h)))
+    ∙ ap (λ (i : ℕ). take i (ns ++ drop (0 + length ns) l)) (sym e)
+    ∙ take-append-seam ns (drop (0 + length ns) l)
+
+-- a part from 0 on
+module _ (z : Sizes) (old ands imuls bmuls zeros dsts rhss flags ws ws′ : List ℕ) (r : ℕ) where
+  pub fills-part : (n : ℕ) → FillsIs z (stores old [] ands imuls bmuls zeros (take (n - 0) (drop 0 dsts)) (take (n - 0) (drop 0 rhss))) flags ws ws′ r
+      → FillsIs z (stores old [] ands imuls bmuls zeros (take n dsts) (take n rhss)) flags ws ws′ r
+  fills-part n h = subst (λ (k : ℕ). FillsIs z (stores old [] ands imuls bmuls zeros (take k dsts) (take k rhss)) flags ws ws′ r) (sub-zero n) h
+
+  pub fills-same : (ds rs : List ℕ) → dsts ≡ ds → rhss ≡ rs → FillsIs z (stores old [] ands imuls bmuls zeros dsts rhss) flags ws ws′ r → FillsIs z (stores old [] ands imuls bmuls zeros ds rs) flags ws ws′ r
+  fills-same ds rs d e h =
+      subst (λ (l : List ℕ). FillsIs z (stores old [] ands imuls bmuls zeros l rs) flags ws ws′ r) d
+      (subst (λ (l : List ℕ). FillsIs z (stores old [] ands imuls bmuls zeros dsts l) flags ws ws′ r) e h)
+
+-- a part from 0 on that comes back as ys: the front is ys
+back-front : (xs ys : List ℕ) (n : ℕ) → n ≤ length xs → length ys ≡ length (take (n - 0) (drop 0 xs)) → ys ≡ take n (ys ++ drop (n - 0) (drop 0 xs))
+back-front xs ys n h e =
+    let k : length ys ≡ n = e ∙ ap (λ (i : ℕ). length (take i xs)) (sub-zero n) ∙ length-take-le n xs h in
+    sym (ap (λ (i : ℕ). take i (ys ++ drop (n - 0) xs)) (sym k) ∙ take-append-seam ys (drop (n - 0) xs))
+
+module _ (slots : ℕ) (z : Sizes) (old new ands imuls bmuls zeros dsts rhss flags new′ ands′ imuls′ bmuls′ zeros′ ds′ rs′ flags′ : List ℕ) (t : Told) where
+  pub fuses-part : (n : ℕ) → n ≤ length dsts → n ≤ length rhss → length ds′ ≡ length (take (n - 0) (drop 0 dsts)) → length rs′ ≡ length (take (n - 0) (drop 0 rhss))
+      → Fuses slots z (lent old new ands imuls bmuls zeros (take (n - 0) (drop 0 dsts)) (take (n - 0) (drop 0 rhss)) flags) (lent old new′ ands′ imuls′ bmuls′ zeros′ ds′ rs′ flags′) t
+      → Fuses slots z (lent old new ands imuls bmuls zeros (take n dsts) (take n rhss) flags)
+      (lent old new′ ands′ imuls′ bmuls′ zeros′ (take n (ds′ ++ drop (n - 0) (drop 0 dsts))) (take n (rs′ ++ drop (n - 0) (drop 0 rhss))) flags′) t
+  fuses-part n h k d r f =
+      subst (λ (l : List ℕ). Fuses slots z (lent old new ands imuls bmuls zeros (take n dsts) (take n rhss) flags) (lent old new′ ands′ imuls′ bmuls′ zeros′ (take n (ds′ ++ drop (n - 0) (drop 0 dsts))) l flags′) t) (back-front rhss rs′ n k r)
+      (subst (λ (l : List ℕ). Fuses slots z (lent old new ands imuls bmuls zeros (take n dsts) (take n rhss) flags) (lent old new′ ands′ imuls′ bmuls′ zeros′ l rs′ flags′) t) (back-front dsts ds′ n h d)
+      (subst (λ (i : ℕ). Fuses slots z (lent old new ands imuls bmuls zeros (take i dsts) (take i rhss) flags) (lent old new′ ands′ imuls′ bmuls′ zeros′ ds′ rs′ flags′) t) (sub-zero n) f))
+
+  -- the same of equal lists
+  pub fuses-same : (d r d′ r′ : List ℕ) → dsts ≡ d → rhss ≡ r → ds′ ≡ d′ → rs′ ≡ r′
+      → Fuses slots z (lent old new ands imuls bmuls zeros dsts rhss flags) (lent old new′ ands′ imuls′ bmuls′ zeros′ ds′ rs′ flags′) t
+      → Fuses slots z (lent old new ands imuls bmuls zeros d r flags) (lent old new′ ands′ imuls′ bmuls′ zeros′ d′ r′ flags′) t
+  fuses-same d r d′ r′ e₁ e₂ e₃ e₄ f =
+      subst (λ (l : List ℕ). Fuses slots z (lent old new ands imuls bmuls zeros l r flags) (lent old new′ ands′ imuls′ bmuls′ zeros′ d′ r′ flags′) t) e₁
+      (subst (λ (l : List ℕ). Fuses slots z (lent old new ands imuls bmuls zeros dsts l flags) (lent old new′ ands′ imuls′ bmuls′ zeros′ d′ r′ flags′) t) e₂
+      (subst (λ (l : List ℕ). Fuses slots z (lent old new ands imuls bmuls zeros dsts rhss flags) (lent old new′ ands′ imuls′ bmuls′ zeros′ l r′ flags′) t) e₃
+      (subst (λ (l : List ℕ). Fuses slots z (lent old new ands imuls bmuls zeros dsts rhss flags) (lent old new′ ands′ imuls′ bmuls′ zeros′ ds′ l flags′) t) e₄ f)))
+
+-- ---- records made of numbers have those numbers
+module _ (f : Definition → ℕ) where
+  map-set : (l : List Definition) (i : ℕ) (d : Definition) → map f (set l i d) ≡ set (map f l) i (f d)
+  map-set [] i d = refl
+  map-set (x ∷ l) zero d = refl
+  map-set (x ∷ l) (suc i) d = ap (λ (r : List ℕ). f x ∷ r) (map-set l i d)
+
+  map-sets : (l : List Definition) (i : ℕ) (ds : List Definition) → map f (sets l i ds) ≡ sets (map f l) i (map f ds)
+  map-sets l i [] = refl
+  map-sets l i (d ∷ ds) = map-sets (set l i d) (suc i) ds ∙ ap (λ (r : List ℕ). sets r (suc i) (map f ds)) (map-set l i d)
+
+made-dsts : (ds rs : List ℕ) → length ds ≤ length rs → dstsOf (made ds rs) ≡ ds
+unfolding made
+made-dsts [] rs h = refl
+made-dsts (d ∷ ds) [] h = absurd (omega (arith, h))
+made-dsts (d ∷ ds) (r ∷ rs) h = ap (λ (l : List ℕ). d ∷ l) (made-dsts ds rs (omega (arith, h)))
+
+made-rhss : (ds rs : List ℕ) → length rs ≤ length ds → rhssOf (made ds rs) ≡ rs
+unfolding made
+made-rhss [] [] h = refl
+made-rhss [] (r ∷ rs) h = absurd (omega (arith, h))
+made-rhss (d ∷ ds) [] h = refl
+made-rhss (d ∷ ds) (r ∷ rs) h = ap (λ (l : List ℕ). r ∷ l) (made-rhss ds rs (omega (arith, h)))
+
+module _ (l : List Definition) (ds rs : List ℕ) (n : ℕ) (p : n ≤ length ds) (q : n ≤ length rs) where
+  pub reloaded-dsts : dstsOf (reloaded l ds rs n) ≡ unloaded (dstsOf l) ds n
+  reloaded-dsts =
+      map-sets (λ (d : Definition). d .dst) l 0 (made (take n ds) (take n rs))
+      ∙ ap (sets (dstsOf l) 0) (made-dsts (take n ds) (take n rs) (omega (arith, length-take-le n ds p, length-take-le n rs q)))
+
+  pub reloaded-rhss : rhssOf (reloaded l ds rs n) ≡ unloaded (rhssOf l) rs n
+  reloaded-rhss =
+      map-sets (λ (d : Definition). d .rhs) l 0 (made (take n ds) (take n rs))
+      ∙ ap (sets (rhssOf l) 0) (made-rhss (take n ds) (take n rs) (omega (arith, length-take-le n ds p, length-take-le n rs q)))
+
+-- where all are stored anew, nothing is left of what was there
+pub all-anew : (l ns : List ℕ) (n : ℕ) → length l ≡ n → n ≤ length ns → unloaded l ns n ≡ take n ns
+all-anew l ns n e h =
+    let k : length (take n ns) ≡ n = length-take-le n ns h in
+    sets-eq (take n ns) l 0 (omega (arith, e, k))
+    ∙ ap (λ (r : List ℕ). take n ns ++ r) (drop-of-length-le l {i = 0 + length (take n ns)} (omega (arith, e, k)))
+    ∙ append-nil (take n ns)

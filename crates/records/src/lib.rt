@@ -1,0 +1,193 @@
+// The entry points over a lent slice of definition records: a caller in Rust or C lends one array. Thin walks over the number slices' form.
+ghost use mathlib.Core.Path.{_≡_};
+ghost use Prim.Native.Nat.{_≤_};
+ghost use mathlib.Core.List.{[]};
+ghost use lib.ListN.{length, take};
+ghost use Rattle.lower.specs.Stores.{stores};
+ghost use Rattle.fusion.specs.Left.{lent};
+ghost use Rattle.fusion.specs.Answer.{toldFused, Fuses};
+ghost use Rattle.fill_back.specs.Filling.{FillsIs};
+ghost use Rattle.records.specs.Records.{dstsOf, rhssOf, storesBy, lentBy, unloaded, reloaded};
+use fusion::Fused;
+use lower::Sizes;
+
+// A definition: its right side, as an operand's number, and its destination wire. The one place where its layout stands.
+#[repr(C)]
+pub struct Definition {
+    pub rhs: u64,
+    pub dst: u16,
+}
+
+// The numbers of the first m records, each kind to a slice of its own.
+pub fn unload(defs: &[Definition], m: usize, dsts: &mut [u16], rhss: &mut [u64])
+    requires { ⌜ (m ≤ length (now defs)) × (m ≤ length (now dsts)) × (m ≤ length (now rhss)) ⌝ }
+    ensures { λ _. ⌜ (now (dsts .exit) ≡ unloaded (now (dsts .entry)) (dstsOf (now (defs .entry))) m) × (now (rhss .exit) ≡ unloaded (now (rhss .entry)) (rhssOf (now (defs .entry))) m) ⌝ }
+{
+    let mut k = 0;
+    while k < m {
+        let d = defs[k];
+        dsts[k] = d.dst;
+        rhss[k] = d.rhs;
+        k += 1;
+    }
+}
+
+// The first n records, made of their numbers.
+pub fn reload(defs: &mut [Definition], dsts: &[u16], rhss: &[u64], n: usize)
+    requires { ⌜ (n ≤ length (now defs)) × (n ≤ length (now dsts)) × (n ≤ length (now rhss)) ⌝ }
+    ensures { λ _. ⌜ now (defs .exit) ≡ reloaded (now (defs .entry)) (now (dsts .entry)) (now (rhss .entry)) n ⌝ }
+{
+    let mut k = 0;
+    while k < n {
+        defs[k] = Definition {
+            rhs: rhss[k],
+            dst: dsts[k],
+        };
+        k += 1;
+    }
+}
+
+// Arrays to unload to. Calls make them, since a repeat is a loop, and the functions that lend them are proved by hand.
+fn no_dsts() -> [u16; lower::MAX_DEFINITIONS] {
+    [0u16; lower::MAX_DEFINITIONS]
+}
+
+fn no_rhss() -> [u64; lower::MAX_DEFINITIONS] {
+    [0u64; lower::MAX_DEFINITIONS]
+}
+
+// Filling back over the first `len` numbers of each kind.
+fn fill_back_numbers(
+    old: &[u64],
+    ands: &[u64],
+    imuls: &[u64],
+    bmuls: &[u64],
+    zeros: &[u64],
+    dsts: &[u16],
+    rhss: &[u64],
+    len: usize,
+    z: Sizes,
+    flags: &[u8],
+    assignment: &mut [u64],
+) -> u8
+    requires { ⌜ (len ≤ length (now dsts)) × (len ≤ length (now rhss)) ⌝ }
+    ensures { λ r. ⌜ FillsIs z (stores (now (old .entry)) [] (now (ands .entry)) (now (imuls .entry)) (now (bmuls .entry)) (now (zeros .entry)) (take len (now (dsts .entry))) (take len (now (rhss .entry)))) (now (flags .entry)) (now (assignment .entry)) (now (assignment .exit)) r ⌝ }
+{
+    fill_back::fill_back(
+        old,
+        ands,
+        imuls,
+        bmuls,
+        zeros,
+        &dsts[0..len],
+        &rhss[0..len],
+        z,
+        flags,
+        &mut *assignment,
+    )
+}
+
+// `fill_back`, where the definitions are records.
+pub fn fill_back_records(
+    old: &[u64],
+    ands: &[u64],
+    imuls: &[u64],
+    bmuls: &[u64],
+    zeros: &[u64],
+    defs: &[Definition],
+    z: Sizes,
+    flags: &[u8],
+    assignment: &mut [u64],
+) -> u8
+    requires { ⌜ length (now defs) ≤ 1024 ⌝ }
+    ensures { λ r. ⌜ FillsIs z (storesBy (now (old .entry)) [] (now (ands .entry)) (now (imuls .entry)) (now (bmuls .entry)) (now (zeros .entry)) (now (defs .entry))) (now (flags .entry)) (now (assignment .entry)) (now (assignment .exit)) r ⌝ }
+{
+    let len = defs.len();
+    let mut dsts = no_dsts();
+    let mut rhss = no_rhss();
+    unload(defs, len, &mut dsts, &mut rhss);
+    fill_back_numbers(
+        old,
+        ands,
+        imuls,
+        bmuls,
+        zeros,
+        &dsts,
+        &rhss,
+        len,
+        z,
+        flags,
+        assignment,
+    )
+}
+
+// Fusing over the first `len` numbers of each kind.
+fn fuse_numbers(
+    old: &[u64],
+    new: &mut [u64],
+    ands: &mut [u64],
+    imuls: &mut [u64],
+    bmuls: &mut [u64],
+    zeros: &mut [u64],
+    dsts: &mut [u16],
+    rhss: &mut [u64],
+    len: usize,
+    flags: &mut [u8],
+    z: Sizes,
+    slots: u64,
+) -> Fused
+    requires { ⌜ (len ≤ length (now dsts)) × (len ≤ length (now rhss)) ⌝ }
+    ensures { λ r. ⌜ Fuses slots z (lent (now (old .entry)) (now (new .entry)) (now (ands .entry)) (now (imuls .entry)) (now (bmuls .entry)) (now (zeros .entry)) (take len (now (dsts .entry))) (take len (now (rhss .entry))) (now (flags .entry))) (lent (now (old .exit)) (now (new .exit)) (now (ands .exit)) (now (imuls .exit)) (now (bmuls .exit)) (now (zeros .exit)) (take len (now (dsts .exit))) (take len (now (rhss .exit))) (now (flags .exit))) (toldFused r) ⌝ }
+{
+    fusion::fuse(
+        old,
+        &mut *new,
+        &mut *ands,
+        &mut *imuls,
+        &mut *bmuls,
+        &mut *zeros,
+        &mut dsts[0..len],
+        &mut rhss[0..len],
+        &mut *flags,
+        z,
+        slots,
+    )
+}
+
+// `fuse`, where the definitions are records. All of them are made anew, so a refusal, which leaves each number, leaves each record.
+pub fn fuse_records(
+    old: &[u64],
+    new: &mut [u64],
+    ands: &mut [u64],
+    imuls: &mut [u64],
+    bmuls: &mut [u64],
+    zeros: &mut [u64],
+    defs: &mut [Definition],
+    flags: &mut [u8],
+    z: Sizes,
+    slots: u64,
+) -> Fused
+    requires { ⌜ length (now defs) ≤ 1024 ⌝ }
+    ensures { λ r. ⌜ Fuses slots z (lentBy (now (old .entry)) (now (new .entry)) (now (ands .entry)) (now (imuls .entry)) (now (bmuls .entry)) (now (zeros .entry)) (now (defs .entry)) (now (flags .entry))) (lentBy (now (old .exit)) (now (new .exit)) (now (ands .exit)) (now (imuls .exit)) (now (bmuls .exit)) (now (zeros .exit)) (now (defs .exit)) (now (flags .exit))) (toldFused r) ⌝ }
+{
+    let len = defs.len();
+    let mut dsts = no_dsts();
+    let mut rhss = no_rhss();
+    unload(&*defs, len, &mut dsts, &mut rhss);
+    let fused = fuse_numbers(
+        old,
+        new,
+        ands,
+        imuls,
+        bmuls,
+        zeros,
+        &mut dsts,
+        &mut rhss,
+        len,
+        flags,
+        z,
+        slots,
+    );
+    reload(defs, &dsts, &rhss, len);
+    fused
+}
