@@ -7,7 +7,7 @@
 --   reloaded           the first n records are those of the numbers, and the rest is as it was
 --
 -- Assumes nothing.
-use Prim.Native.Nat.{ℕ, zero, suc}
+use Prim.Native.Nat.{ℕ}
 use mathlib.Core.List.{List, [], _∷_, map}
 use lib.ListN.{take}
 use lib.Seq.{sets}
