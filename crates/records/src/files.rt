@@ -101,3 +101,35 @@ fn read_numbers(
         &mut rhss[0..len],
     )
 }
+
+// `read`, where the definitions are records. All of them are made anew, so a refusal, which leaves each number, leaves each record.
+pub fn read_records(
+    input: &[u8],
+    terms: &mut [u64],
+    ands: &mut [u64],
+    imuls: &mut [u64],
+    bmuls: &mut [u64],
+    zeros: &mut [u64],
+    defs: &mut [Definition],
+) -> Read
+    requires { ⌜ length (now defs) ≤ 1024 ⌝ }
+    ensures { λ r. ⌜ ReadIs (now (input .entry)) (now (terms .entry)) (now (ands .entry)) (now (imuls .entry)) (now (bmuls .entry)) (now (zeros .entry)) (dstsOf (now (defs .entry))) (rhssOf (now (defs .entry))) r (now (terms .exit)) (now (ands .exit)) (now (imuls .exit)) (now (bmuls .exit)) (now (zeros .exit)) (dstsOf (now (defs .exit))) (rhssOf (now (defs .exit))) ⌝ }
+{
+    let len = defs.len();
+    let mut dsts = crate::no_dsts();
+    let mut rhss = crate::no_rhss();
+    crate::unload(&*defs, len, &mut dsts, &mut rhss);
+    let read = read_numbers(
+        input,
+        terms,
+        ands,
+        imuls,
+        bmuls,
+        zeros,
+        &mut dsts,
+        &mut rhss,
+        len,
+    );
+    crate::reload(defs, &dsts, &rhss, len);
+    read
+}
