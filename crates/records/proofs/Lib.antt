@@ -5,3 +5,5 @@ pub mod Parts
 pub mod Arrays
 pub mod Shared
 pub mod Blank
+pub mod Spans
+pub mod Agree

@@ -36,7 +36,7 @@ module _ (z : Sizes) (old ands imuls bmuls zeros dsts rhss flags ws ws′ : List
       (subst (λ (l : List ℕ). FillsIs z (stores old [] ands imuls bmuls zeros dsts l) flags ws ws′ r) e h)
 
 -- a part from 0 on that comes back as ys: the front is ys
-back-front : (xs ys : List ℕ) (n : ℕ) → n ≤ length xs → length ys ≡ length (take (n - 0) (drop 0 xs)) → ys ≡ take n (ys ++ drop (n - 0) (drop 0 xs))
+pub back-front : (xs ys : List ℕ) (n : ℕ) → n ≤ length xs → length ys ≡ length (take (n - 0) (drop 0 xs)) → ys ≡ take n (ys ++ drop (n - 0) (drop 0 xs))
 back-front xs ys n h e =
     let k : length ys ≡ n = e ∙ ap (λ (i : ℕ). length (take i xs)) (sub-zero n) ∙ length-take-le n xs h in
     sym (ap (λ (i : ℕ). take i (ys ++ drop (n - 0) xs)) (sym k) ∙ take-append-seam ys (drop (n - 0) xs))

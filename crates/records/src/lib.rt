@@ -11,6 +11,9 @@ ghost use Rattle.records.specs.Records.{dstsOf, rhssOf, storesBy, lentBy
 use fusion::Fused;
 use lower::Sizes;
 
+pub mod files;
+pub mod values;
+
 // A definition: its right side, as an operand's number, and its destination wire. The one place where its layout stands.
 #[repr(C)]
 pub struct Definition {
