@@ -1,4 +1,4 @@
--- The callees that both entries share, and the arrays that two of them make.
+-- The callees that all entries share, and the arrays that two of them make.
 --     NoDsts, NoRhss, Unload    their contracts
 --     blank-dsts, blank-rhss    what the first two ask: nothing
 --     fits, room16, room64      an array's length is a number, and its elements have room
