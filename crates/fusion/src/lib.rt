@@ -1,4 +1,4 @@
-// The fusion pass: decide, rebuild, patch. Follows frontend/src/pass/fusion/mod.rs.
+// The fusion pass: decide, rebuild, patch. Follows frontend/src/pass/fusion.
 ghost use mathlib.Core.Path.{_≡_};
 ghost use mathlib.Core.Bool.{true};
 ghost use mathlib.Core.List.{[], _++_};
