@@ -5,3 +5,4 @@ pub mod Parts
 pub mod Arrays
 pub mod Shared
 pub mod Blank
+pub mod Past
