@@ -6,3 +6,4 @@ pub mod Arrays
 pub mod Shared
 pub mod Blank
 pub mod Past
+pub mod Wholes

@@ -1,18 +1,18 @@
 -- How many records count, and 3, 4 and 5 told from 6. Assumes nothing.
 use mathlib.Core.Path.{_≡_, refl, sym, ap, _∙_}
-use Prim.Native.Nat.{ℕ, zero, suc, _≤_, _<_}
+use Prim.Native.Nat.{ℕ, _≤_, _<_}
 use native.Mathlib.Omega.{arith}
-use mathlib.Core.Bool.{Bool, true, false, cond}
+use mathlib.Core.Bool.{cond}
 use mathlib.Core.List.{List, [], _∷_}
-use lib.Dec.{eqb, ltb, leb}
-use lib.ListN.{length, take}
-use borrow.Author.Tests.{lt-ltb, le-ltb, le-leb, lt-leb, eq-eqb, ne-eqb}
+use lib.Dec.{eqb}
+use lib.ListN.{length}
+use borrow.Author.Tests.{lt-ltb, le-ltb, le-leb, lt-leb, ne-eqb}
 use Rattle.word.specs.Answers as T
 use Rattle.word.specs.Answers.{Told}
 use Rattle.lower.specs.declared.Sizes.{Sizes}
 use Rattle.lower.specs.Stores.{Stores, stores}
-use Rattle.lower.specs.Faults.{orElse, unless, pairsFault, rowsFault, definitionsFault, placesFault, fullFault, termsIn, memoryFault}
-use Rattle.lower.proofs.Firsts.{else-some, else-none, else-only}
+use Rattle.lower.specs.Faults.{orElse, pairsFault, rowsFault, definitionsFault, placesFault, fullFault, termsIn, memoryFault}
+use Rattle.lower.proofs.Firsts.{else-some, else-none}
 use Rattle.lower.proofs.Sounds.{only-345}
 use Rattle.lower.proofs.Accepts.{full-only}
 use Rattle.fusion.specs.Left.{Lent}
