@@ -3,10 +3,11 @@ use mathlib.Core.Path.{_≡_, refl, sym, ap, ap₂, subst, _∙_}
 use mathlib.Core.Logic.{_⊎_, inl, inr, ⊎-elim}
 use Prim.Native.Nat.{ℕ, zero, suc, _+_, _-_, _≤_, _<_, _^_}
 use native.Mathlib.Omega.{arith}
+use native.Mathlib.Numerals.{add-one}
 use mathlib.Core.Bool.{Bool, true, false, not}
 use mathlib.Core.List.{List, [], _∷_, _++_, map, append-assoc}
 use lib.Dec.{ltb, leb}
-use lib.ListN.{length, take, drop, getD, length-append, length-map, length-drop, take-append-drop}
+use lib.ListN.{length, take, drop, getD, length-append, length-map, length-drop, take-append-drop, List·getD-map}
 use lib.Seq.{sets, length-sets, take-take, length-take-le, drop-append-le}
 use borrow.Author.Tests.{le-leb, lt-leb}
 use Rattle.word.specs.Answers as W
@@ -41,8 +42,9 @@ use Rattle.fusion.proofs.Closing.{numbers-length}
 use Rattle.undo.specs.FillBack.{FilledBack}
 use Rattle.fill_back.specs.Filling as F
 use Rattle.fill_back.specs.Filling.{FillsIs}
-use Rattle.records.specs.Records.{held, looked, rowsOnly, pastFault, FillsFirst, filledFirst, filledPast, FusesFirst, fusedFirst, fusedPast}
-use Rattle.records.proofs.Laws.{lt-or-le}
+use Rattle.records.specs.declared.Definition as D
+use Rattle.records.specs.Records.{dstsOf, rhssOf, held, looked, rowsOnly, pastFault, FillsFirst, filledFirst, filledPast, FusesFirst, fusedFirst, fusedPast}
+use Rattle.records.proofs.Laws.{none, lt-or-le}
 use Rattle.records.proofs.Past.{held-over, held-all, looked-few, looked-short, looked-all}
 
 -- ---- faults, one after the other
@@ -489,3 +491,21 @@ module _ (w : ℕ) (old : List ℕ) where
   pairs-byte (d ∷ ds) (h ∷ rs) =
       else-only Byte (orElse (unless (ltb d w) 5) (operandFault w old [] h)) _
       (else-only Byte (unless (ltb d w) 5) _ (unless-only Byte (ltb d w) 5 (byte 0 (omega arith)) (byte 5 (omega arith))) (operand-byte h)) (pairs-byte ds rs)
+
+abbrev dstOf : D.Definition → ℕ
+dstOf d = d .dst
+
+abbrev rhsOf : D.Definition → ℕ
+rhsOf d = d .rhs
+
+pub records-more : (w : ℕ) (old : List ℕ) (ys : List D.Definition) (k k′ r : ℕ) → k < length ys → k′ ≡ k + 1
+    → r ≡ orElse (pairsFault w old [] (take k (dstsOf ys)) (take k (rhssOf ys))) (pairsFault w old [] (getD ys k none .dst ∷ []) (getD ys k none .rhs ∷ []))
+    → r ≡ pairsFault w old [] (take k′ (dstsOf ys)) (take k′ (rhssOf ys))
+records-more w old ys k k′ r h n e =
+    let here : orElse (pairsFault w old [] (take k (dstsOf ys)) (take k (rhssOf ys))) (pairsFault w old [] (getD (dstsOf ys) k 0 ∷ []) (getD (rhssOf ys) k 0 ∷ []))
+    ≡ pairsFault w old [] (take (suc k) (dstsOf ys)) (take (suc k) (rhssOf ys)) =
+    pairs-more w old (dstsOf ys) (rhssOf ys) k (omega (arith, h, length-map ys dstOf)) (omega (arith, h, length-map ys rhsOf)) in
+    e
+    ∙ ap₂ {C = ℕ} (λ (d x : ℕ). orElse (pairsFault w old [] (take k (dstsOf ys)) (take k (rhssOf ys))) (pairsFault w old [] (d ∷ []) (x ∷ []))) (sym (List·getD-map dstOf ys k none)) (sym (List·getD-map rhsOf ys k none))
+    ∙ here
+    ∙ ap (λ (i : ℕ). pairsFault w old [] (take i (dstsOf ys)) (take i (rhssOf ys))) (sym (add-one k) ∙ sym n)

@@ -140,6 +140,21 @@ fn next_fault(old: &[u64], fault: u8, dst: u16, rhs: u64, wires: usize) -> u8
     pair_fault(old, dst, rhs, wires)
 }
 
+// The first fault of the first n definitions, read where they stand.
+pub fn records_fault(old: &[u64], defs: &[Definition], n: usize, wires: usize) -> u8
+    requires { ⌜ n ≤ length (now defs) ⌝ }
+    ensures { λ r. ⌜ r ≡ pairsFault wires (now (old .entry)) [] (take n (dstsOf (now (defs .entry)))) (take n (rhssOf (now (defs .entry)))) ⌝ }
+{
+    let mut fault = 0;
+    let mut k = 0;
+    while k < n {
+        let d = defs[k];
+        fault = next_fault(old, fault, d.dst, d.rhs, wires);
+        k += 1;
+    }
+    fault
+}
+
 // The refusal where there are too many definitions, all of them there.
 fn past_fault(
     old: &[u64],
