@@ -43,7 +43,7 @@ use Rattle.undo.specs.FillBack.{FilledBack}
 use Rattle.fill_back.specs.Filling as F
 use Rattle.fill_back.specs.Filling.{FillsIs}
 use Rattle.records.specs.declared.Definition as D
-use Rattle.records.specs.Records.{dstsOf, rhssOf, held, looked, rowsOnly, pastFault, FillsFirst, filledFirst, filledPast, FusesFirst, fusedFirst, fusedPast}
+use Rattle.records.specs.Records.{dstsOf, rhssOf, storesBy, lentBy, held, looked, rowsOnly, pastFault, FillsFirst, filledFirst, filledPast, FusesFirst, fusedFirst, fusedPast}
 use Rattle.records.proofs.Laws.{none, lt-or-le}
 use Rattle.records.proofs.Past.{held-over, held-all, looked-few, looked-short, looked-all}
 
@@ -509,3 +509,24 @@ records-more w old ys k k′ r h n e =
     ∙ ap₂ {C = ℕ} (λ (d x : ℕ). orElse (pairsFault w old [] (take k (dstsOf ys)) (take k (rhssOf ys))) (pairsFault w old [] (d ∷ []) (x ∷ []))) (sym (List·getD-map dstOf ys k none)) (sym (List·getD-map rhsOf ys k none))
     ∙ here
     ∙ ap (λ (i : ℕ). pairsFault w old [] (take i (dstsOf ys)) (take i (rhssOf ys))) (sym (add-one k) ∙ sym n)
+
+-- ---- over records
+module _ (z : Sizes) (old ands imuls bmuls zeros : List ℕ) (ys : List D.Definition) (us vs : List ℕ) (m n fault : ℕ) (e : m ≡ held (length ys)) (d : n ≡ looked (length ys) z)
+    (f : fault ≡ pairsFault (z .wires) old [] (take n (dstsOf ys)) (take n (rhssOf ys))) (p : us ≡ take m (dstsOf ys)) (q : vs ≡ take m (rhssOf ys)) where
+  pub fills-records : (flags ws ws′ : List ℕ) (r : ℕ) → FillsFirst n fault z (stores old [] ands imuls bmuls zeros us vs) flags ws ws′ r → FillsIs z (storesBy old [] ands imuls bmuls zeros ys) flags ws ws′ r
+  fills-records flags ws ws′ r y =
+      fills-all z old ands imuls bmuls zeros (dstsOf ys) (rhssOf ys) (length ys) m n fault e d (length-map ys dstOf) (length-map ys rhsOf) f flags ws ws′ r
+      (subst (λ (l : List ℕ). FillsFirst n fault z (stores old [] ands imuls bmuls zeros l (take m (rhssOf ys))) flags ws ws′ r) p
+      (subst (λ (l : List ℕ). FillsFirst n fault z (stores old [] ands imuls bmuls zeros us l) flags ws ws′ r) q y))
+
+  pub fuses-records : (slots : ℕ) (new flags new′ ands′ imuls′ bmuls′ zeros′ us′ vs′ flags′ : List ℕ) (ys′ : List D.Definition) (t : Told) → dstsOf ys′ ≡ sets (dstsOf ys) 0 us′ → rhssOf ys′ ≡ sets (rhssOf ys) 0 vs′
+      → FusesFirst n fault slots z (lent old new ands imuls bmuls zeros us vs flags) (lent old new′ ands′ imuls′ bmuls′ zeros′ us′ vs′ flags′) t
+      → Fuses slots z (lentBy old new ands imuls bmuls zeros ys flags) (lentBy old new′ ands′ imuls′ bmuls′ zeros′ ys′ flags′) t
+  fuses-records slots new flags new′ ands′ imuls′ bmuls′ zeros′ us′ vs′ flags′ ys′ t p′ q′ y =
+      let all : Lent = lentBy old new ands imuls bmuls zeros ys flags in
+      let left : Lent = lent old new′ ands′ imuls′ bmuls′ zeros′ us′ vs′ flags′ in
+      subst (λ (l : List ℕ). Fuses slots z all (lent old new′ ands′ imuls′ bmuls′ zeros′ l (rhssOf ys′) flags′) t) (sym p′)
+      (subst (λ (l : List ℕ). Fuses slots z all (lent old new′ ands′ imuls′ bmuls′ zeros′ (sets (dstsOf ys) 0 us′) l flags′) t) (sym q′)
+      (fuses-all slots z old new ands imuls bmuls zeros (dstsOf ys) (rhssOf ys) flags (length ys) m n fault e d (length-map ys dstOf) (length-map ys rhsOf) f left t
+      (subst (λ (l : List ℕ). FusesFirst n fault slots z (lent old new ands imuls bmuls zeros l (take m (rhssOf ys)) flags) left t) p
+      (subst (λ (l : List ℕ). FusesFirst n fault slots z (lent old new ands imuls bmuls zeros us l flags) left t) q y))))

@@ -4,11 +4,11 @@ ghost use Prim.Native.Nat.{_≤_};
 ghost use mathlib.Core.List.{[], _∷_};
 ghost use lib.ListN.{length, take};
 ghost use Rattle.lower.specs.Stores.{stores};
-ghost use Rattle.lower.specs.Faults.{orElse, pairsFault, placesFault, memoryFault};
+ghost use Rattle.lower.specs.Faults.{orElse, pairsFault, placesFault};
 ghost use Rattle.fusion.specs.Left.{lent};
 ghost use Rattle.fusion.specs.Answer.{toldFused, Fuses};
 ghost use Rattle.fill_back.specs.Filling.{FillsIs};
-ghost use Rattle.records.specs.Records.{dstsOf, rhssOf, storesBy, lentBy, unloaded, reloaded, held, looked, rowsOnly, pastFault, FillsFirst, FusesFirst};
+ghost use Rattle.records.specs.Records.{dstsOf, rhssOf, storesBy, lentBy, unloaded, reloaded, held, looked, pastFault, FillsFirst, FusesFirst};
 use fusion::Fused;
 use lower::Sizes;
 
@@ -141,7 +141,7 @@ fn next_fault(old: &[u64], fault: u8, dst: u16, rhs: u64, wires: usize) -> u8
 }
 
 // The first fault of the first n definitions, read where they stand.
-pub fn records_fault(old: &[u64], defs: &[Definition], n: usize, wires: usize) -> u8
+fn records_fault(old: &[u64], defs: &[Definition], n: usize, wires: usize) -> u8
     requires { ⌜ n ≤ length (now defs) ⌝ }
     ensures { λ r. ⌜ r ≡ pairsFault wires (now (old .entry)) [] (take n (dstsOf (now (defs .entry)))) (take n (rhssOf (now (defs .entry)))) ⌝ }
 {
@@ -267,14 +267,16 @@ pub fn fill_back_records(
     flags: &[u8],
     assignment: &mut [u64],
 ) -> u8
-    requires { ⌜ length (now defs) ≤ 1024 ⌝ }
     ensures { λ r. ⌜ FillsIs z (storesBy (now (old .entry)) [] (now (ands .entry)) (now (imuls .entry)) (now (bmuls .entry)) (now (zeros .entry)) (now (defs .entry))) (now (flags .entry)) (now (assignment .entry)) (now (assignment .exit)) r ⌝ }
 {
     let len = defs.len();
+    let m = held(len);
+    let n = looked(len, z);
+    let fault = records_fault(old, defs, n, z.wires);
     let mut dsts = no_dsts();
     let mut rhss = no_rhss();
-    unload(defs, len, &mut dsts, &mut rhss);
-    fill_back_numbers(
+    unload(defs, m, &mut dsts, &mut rhss);
+    fill_back_first(
         old,
         ands,
         imuls,
@@ -282,7 +284,9 @@ pub fn fill_back_records(
         zeros,
         &dsts,
         &rhss,
-        len,
+        m,
+        n,
+        fault,
         z,
         flags,
         assignment,
@@ -372,7 +376,8 @@ fn fuse_first(
     )
 }
 
-// `fuse`, where the definitions are records. All of them are made anew, so a refusal, which leaves each number, leaves each record.
+// `fuse`, where the definitions are records. Those whose numbers were unloaded are made anew, so a refusal, which leaves each number, leaves each
+// record.
 pub fn fuse_records(
     old: &[u64],
     new: &mut [u64],
@@ -385,14 +390,16 @@ pub fn fuse_records(
     z: Sizes,
     slots: u64,
 ) -> Fused
-    requires { ⌜ length (now defs) ≤ 1024 ⌝ }
     ensures { λ r. ⌜ Fuses slots z (lentBy (now (old .entry)) (now (new .entry)) (now (ands .entry)) (now (imuls .entry)) (now (bmuls .entry)) (now (zeros .entry)) (now (defs .entry)) (now (flags .entry))) (lentBy (now (old .exit)) (now (new .exit)) (now (ands .exit)) (now (imuls .exit)) (now (bmuls .exit)) (now (zeros .exit)) (now (defs .exit)) (now (flags .exit))) (toldFused r) ⌝ }
 {
     let len = defs.len();
+    let m = held(len);
+    let n = looked(len, z);
+    let fault = records_fault(old, &*defs, n, z.wires);
     let mut dsts = no_dsts();
     let mut rhss = no_rhss();
-    unload(&*defs, len, &mut dsts, &mut rhss);
-    let fused = fuse_numbers(
+    unload(&*defs, m, &mut dsts, &mut rhss);
+    let fused = fuse_first(
         old,
         new,
         ands,
@@ -401,11 +408,13 @@ pub fn fuse_records(
         zeros,
         &mut dsts,
         &mut rhss,
-        len,
+        m,
+        n,
+        fault,
         flags,
         z,
         slots,
     );
-    reload(defs, &dsts, &rhss, len);
+    reload(defs, &dsts, &rhss, m);
     fused
 }

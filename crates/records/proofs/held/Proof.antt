@@ -1,6 +1,5 @@
 -- The smaller of the two. Assumes nothing.
 use Rattle.records.proofs.Past.{held-over, held-all}
-use borrow.Author.Needs.{needs}
 use Rattle.records.proofs.held.Statement.{statement}
 use Rattle.records.proofs.held.Tie as tie
 

@@ -1,6 +1,5 @@
 -- The two tests are the definition's. Assumes nothing.
 use Rattle.records.proofs.Past.{looked-few, looked-short, looked-all}
-use borrow.Author.Needs.{needs}
 use Rattle.records.proofs.looked.Statement.{statement}
 use Rattle.records.proofs.looked.Tie as tie
 
