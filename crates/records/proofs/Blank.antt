@@ -1,13 +1,21 @@
--- The callees that all entries share, and the arrays that two of them make.
---     NoDsts, NoRhss, Unload    their contracts
+-- The callees that the entries share, and the arrays that two of them make.
+--     NoDsts, NoRhss, Unload, Holds, Looks, Faults    their contracts
 --     blank-dsts, blank-rhss    what the first two ask: nothing
+--     toHeld, asked-held, toLooked, asked-looked      `held` and `looked` are called with these, and ask nothing of them
 --     fits, room16, room64      an array's length is a number, and its elements have room
 -- The lemmas under a model assume `Given`.
 use native.Mathlib.Omega.{arith}
-use Rattle.records.proofs.Kit.{_<_, _^_, [], URA, SProp, ent, Memory, Routine, Heap, Atoms, Fun, Given, ⋆, _$_, _∵_, !, qed, join, frame, done, Room, u16, u64, nothing, Contract, tripleOf}
+use Rattle.records.proofs.Kit.{refl, ℕ, _<_, _^_, [], _∷_, w64, vint, URA, SProp, ent, Memory, Routine, Heap, Atoms, Fun, Given, ⋆, _$_, _∵_, !, qed, join, fjoin, frame, done, Is, uint-makes, Room, u16, u64, usize, owned, nothing, Contract, tripleOf}
+use denote.Struct.Laws as LL
+use Rattle.lower.specs.declared.Sizes.{Sizes}
+use Rattle.lower.proofs.Sizes as Z
+use Rattle.lower.proofs.Sizes.Laws as Z′
 use Rattle.records.proofs.no_dsts as no-dsts
 use Rattle.records.proofs.no_rhss as no-rhss
 use Rattle.records.proofs.unload as unload
+use Rattle.records.proofs.held as held
+use Rattle.records.proofs.looked as looked
+use Rattle.records.proofs.records_fault as faults
 
 pub fits : 1024 < 2 ^ 64
 fits = omega arith
@@ -28,7 +36,30 @@ module _ {M : Type 1} (𝓤 : URA M) (H : Heap 𝓤) (A : Atoms 𝓤) (mem : Mem
   abbrev pub Unload : Contract 𝓤
   Unload = tripleOf 𝓤 H A unload.signature (unload.spec 𝓤 H A mem run)
 
+  abbrev pub Holds : Contract 𝓤
+  Holds = tripleOf 𝓤 H A held.signature (held.spec 𝓤 H A mem run)
+
+  abbrev pub toHeld : ℕ → Holds .Ghost
+  toHeld len = ((tt, tt, tt, (len, tt), (vint w64 len ∷ [], tt)), tt)
+
+  abbrev pub Looks : Contract 𝓤
+  Looks = tripleOf 𝓤 H A looked.signature (looked.spec 𝓤 H A mem run)
+
+  abbrev pub toLooked : ℕ → Sizes → Looks .Ghost
+  toLooked len z = ((tt, tt, tt, (len, (z, tt)), (vint w64 len ∷ [], (LL.val Z.the-type Z′.the-laws z ∷ [], tt))), tt)
+
+  abbrev pub Faults : Contract 𝓤
+  Faults = tripleOf 𝓤 H A faults.signature (faults.spec 𝓤 H A mem run)
+
   module _ (W : Given 𝓤 H A) where
+    pub asked-held : (len : ℕ) → len < 2 ^ 64 → ent 𝓤 (⋆ 𝓤 H A []) (Holds .pre (toHeld len))
+    asked-held len g = qed W [] ∵ nothing ! $ owned ! usize (Is usize) (uint-makes 𝓤 H A W w64) len _ (refl, g) $ fjoin ! $ nothing ! $ join ! $ frame ! $ done !
+
+    pub asked-looked : (len : ℕ) (z : Sizes) → len < 2 ^ 64 → Is Z.the-row z (LL.vals Z.the-type Z′.the-laws z) → ent 𝓤 (⋆ 𝓤 H A []) (Looks .pre (toLooked len z))
+    asked-looked len z g gz =
+        qed W [] ∵ nothing ! $ owned ! Z.the-row (Is Z.the-row) (LL.makes Z.the-type Z′.the-plain 𝓤 H A) z _ gz $ fjoin ! $
+        owned ! usize (Is usize) (uint-makes 𝓤 H A W w64) len _ (refl, g) $ fjoin ! $ nothing ! $ join ! $ frame ! $ done !
+
     pub blank-dsts : ent 𝓤 (⋆ 𝓤 H A []) (NoDsts .pre ((tt, tt, tt, tt, tt), tt))
     blank-dsts = qed W [] ∵ nothing ! $ nothing ! $ join ! $ frame ! $ done !
 

@@ -7,3 +7,5 @@ pub mod Shared
 pub mod Blank
 pub mod Spans
 pub mod Agree
+pub mod Past
+pub mod Wholes

@@ -5,7 +5,7 @@ use native.Mathlib.Nat.{sub-zero}
 use mathlib.Core.List.{List, [], _∷_, _++_, map, append-nil}
 use native.Mathlib.Omega.{arith}
 use lib.ListN.{length, take, drop, set, drop-of-length-le}
-use lib.Seq.{sets, sets-eq, take-all, take-append-seam, length-take-le}
+use lib.Seq.{sets, sets-eq, take-all, take-take, take-append-seam, length-take-le}
 use Rattle.word.specs.Answers.{Told}
 use Rattle.lower.specs.declared.Sizes.{Sizes}
 use Rattle.lower.specs.Stores.{stores}
@@ -24,16 +24,16 @@ front-all l ns n e h =
     ∙ ap (λ (i : ℕ). take i (ns ++ drop (0 + length ns) l)) (sym e)
     ∙ take-append-seam ns (drop (0 + length ns) l)
 
+-- the first of ns stand in front
+pub front-some : (l ns : List ℕ) (n : ℕ) → n ≤ length ns → n ≤ length l → take n (unloaded l ns n) ≡ take n ns
+front-some l ns n k h =
+    ap (λ (vs : List ℕ). take n (sets l 0 vs)) (sym (take-take n n ns (omega arith))) ∙ front-all l (take n ns) n (length-take-le n ns k) h
+
 -- a part from 0 on
 module _ (z : Sizes) (old ands imuls bmuls zeros dsts rhss flags ws ws′ : List ℕ) (r : ℕ) where
   pub fills-part : (n : ℕ) → FillsIs z (stores old [] ands imuls bmuls zeros (take (n - 0) (drop 0 dsts)) (take (n - 0) (drop 0 rhss))) flags ws ws′ r
       → FillsIs z (stores old [] ands imuls bmuls zeros (take n dsts) (take n rhss)) flags ws ws′ r
   fills-part n h = subst (λ (k : ℕ). FillsIs z (stores old [] ands imuls bmuls zeros (take k dsts) (take k rhss)) flags ws ws′ r) (sub-zero n) h
-
-  pub fills-same : (ds rs : List ℕ) → dsts ≡ ds → rhss ≡ rs → FillsIs z (stores old [] ands imuls bmuls zeros dsts rhss) flags ws ws′ r → FillsIs z (stores old [] ands imuls bmuls zeros ds rs) flags ws ws′ r
-  fills-same ds rs d e h =
-      subst (λ (l : List ℕ). FillsIs z (stores old [] ands imuls bmuls zeros l rs) flags ws ws′ r) d
-      (subst (λ (l : List ℕ). FillsIs z (stores old [] ands imuls bmuls zeros dsts l) flags ws ws′ r) e h)
 
 -- a part from 0 on that comes back as ys: the front is ys
 pub back-front : (xs ys : List ℕ) (n : ℕ) → n ≤ length xs → length ys ≡ length (take (n - 0) (drop 0 xs)) → ys ≡ take n (ys ++ drop (n - 0) (drop 0 xs))
@@ -50,16 +50,6 @@ module _ (slots : ℕ) (z : Sizes) (old new ands imuls bmuls zeros dsts rhss fla
       subst (λ (l : List ℕ). Fuses slots z (lent old new ands imuls bmuls zeros (take n dsts) (take n rhss) flags) (lent old new′ ands′ imuls′ bmuls′ zeros′ (take n (ds′ ++ drop (n - 0) (drop 0 dsts))) l flags′) t) (back-front rhss rs′ n k r)
       (subst (λ (l : List ℕ). Fuses slots z (lent old new ands imuls bmuls zeros (take n dsts) (take n rhss) flags) (lent old new′ ands′ imuls′ bmuls′ zeros′ l rs′ flags′) t) (back-front dsts ds′ n h d)
       (subst (λ (i : ℕ). Fuses slots z (lent old new ands imuls bmuls zeros (take i dsts) (take i rhss) flags) (lent old new′ ands′ imuls′ bmuls′ zeros′ ds′ rs′ flags′) t) (sub-zero n) f))
-
-  -- the same of equal lists
-  pub fuses-same : (d r d′ r′ : List ℕ) → dsts ≡ d → rhss ≡ r → ds′ ≡ d′ → rs′ ≡ r′
-      → Fuses slots z (lent old new ands imuls bmuls zeros dsts rhss flags) (lent old new′ ands′ imuls′ bmuls′ zeros′ ds′ rs′ flags′) t
-      → Fuses slots z (lent old new ands imuls bmuls zeros d r flags) (lent old new′ ands′ imuls′ bmuls′ zeros′ d′ r′ flags′) t
-  fuses-same d r d′ r′ e₁ e₂ e₃ e₄ f =
-      subst (λ (l : List ℕ). Fuses slots z (lent old new ands imuls bmuls zeros l r flags) (lent old new′ ands′ imuls′ bmuls′ zeros′ d′ r′ flags′) t) e₁
-      (subst (λ (l : List ℕ). Fuses slots z (lent old new ands imuls bmuls zeros dsts l flags) (lent old new′ ands′ imuls′ bmuls′ zeros′ d′ r′ flags′) t) e₂
-      (subst (λ (l : List ℕ). Fuses slots z (lent old new ands imuls bmuls zeros dsts rhss flags) (lent old new′ ands′ imuls′ bmuls′ zeros′ l r′ flags′) t) e₃
-      (subst (λ (l : List ℕ). Fuses slots z (lent old new ands imuls bmuls zeros dsts rhss flags) (lent old new′ ands′ imuls′ bmuls′ zeros′ ds′ l flags′) t) e₄ f)))
 
 -- ---- records made of numbers have those numbers
 module _ (f : Definition → ℕ) where

@@ -5,14 +5,28 @@
 --   storesBy           the same of a system that is only read
 --   unloaded           the first m places of a number slice are the records' numbers, and the rest is as it was
 --   reloaded           the first n records are those of the numbers, and the rest is as it was
+--   held               how many records' numbers the arrays take: all, or so many as there may be definitions
+--   looked             how many records are looked at where they stand: so many as count, where that is more than the arrays take
+--   pastFault          the refusal of a system that has too many definitions, all of them there: 3, 4 and 5 come before 6
+--   FillsFirst, FusesFirst   the answer where n records were looked at, with a fault or none: by the first numbers, or a refusal
 --
 -- Assumes nothing.
+use mathlib.Core.Path.{_≡_}
 use Prim.Native.Nat.{ℕ}
+use mathlib.Core.Bool.{cond, _&&_}
 use mathlib.Core.List.{List, [], _∷_, map}
+use lib.Dec.{ltb, leb}
 use lib.ListN.{take}
 use lib.Seq.{sets}
+use Rattle.word.specs.Answers as T
+use Rattle.word.specs.Answers.{Told}
+use Rattle.lower.specs.declared.Sizes.{Sizes}
+use Rattle.lower.specs.Accepted.{MAX_DEFINITIONS}
 use Rattle.lower.specs.Stores.{Stores, stores}
+use Rattle.lower.specs.Faults.{orElse, placesFault, FULL}
 use Rattle.fusion.specs.Left.{Lent, lent}
+use Rattle.fusion.specs.Answer.{Fuses}
+use Rattle.fill_back.specs.Filling.{FillsIs}
 use Rattle.records.specs.declared.Definition.{Definition}
 
 abbrev pub dstsOf : List Definition → List ℕ
@@ -39,3 +53,25 @@ made (d ∷ ds) (r ∷ rs) = record { rhs = r; dst = d } ∷ made ds rs
 
 abbrev pub reloaded : List Definition → List ℕ → List ℕ → ℕ → List Definition
 reloaded ds dsts rhss n = sets ds 0 (made (take n dsts) (take n rhss))
+
+unfoldable pub held : ℕ → ℕ
+held len = cond (ltb MAX_DEFINITIONS len) MAX_DEFINITIONS len
+
+unfoldable pub looked : ℕ → Sizes → ℕ
+looked len z = cond (ltb MAX_DEFINITIONS (z .linears) && leb (z .linears) len) (z .linears) 0
+
+-- the rows alone
+abbrev pub rowsOnly : Sizes → Sizes
+rowsOnly z = record { wires = z .wires; ands = z .ands; imuls = z .imuls; bmuls = z .bmuls; zeros = z .zeros; linears = 0 }
+
+-- "lists in tag order": the rows' fault before the definitions'
+unfoldable pub pastFault : Sizes → List ℕ → List ℕ → List ℕ → List ℕ → List ℕ → ℕ → ℕ
+pastFault z old ands imuls bmuls zeros fault = orElse (placesFault (rowsOnly z) (stores old [] ands imuls bmuls zeros [] [])) (orElse fault FULL)
+
+pub data FillsFirst (n fault : ℕ) (z : Sizes) (s : Stores) (flags ws ws′ : List ℕ) : ℕ → Type 0 where
+  filledFirst : {r : ℕ} → n ≡ 0 → FillsIs z s flags ws ws′ r → FillsFirst n fault z s flags ws ws′ r
+  filledPast : {r : ℕ} → (n ≡ 0 → ⊥) → r ≡ pastFault z (s .old) (s .ands) (s .imuls) (s .bmuls) (s .zeros) fault → ws′ ≡ ws → FillsFirst n fault z s flags ws ws′ r
+
+pub data FusesFirst (n fault slots : ℕ) (z : Sizes) (l l′ : Lent) : Told → Type 0 where
+  fusedFirst : {t : Told} → n ≡ 0 → Fuses slots z l l′ t → FusesFirst n fault slots z l l′ t
+  fusedPast : {r : ℕ} → (n ≡ 0 → ⊥) → r ≡ pastFault z (l .old) (l .ands) (l .imuls) (l .bmuls) (l .zeros) fault → l′ ≡ l → FusesFirst n fault slots z l l′ (T.refused r)

@@ -1,0 +1,25 @@
+-- Each branch is a case of the contract. Assumes nothing.
+use Rattle.records.proofs.Past.{fills-past, fills-within}
+use borrow.Author.Needs.{needs}
+use Rattle.records.proofs.fill_back_first.Statement.{statement}
+use Rattle.records.proofs.fill_back_first.Tie as tie
+
+past-fault-requires : tie.Need-past-fault-requires
+past-fault-requires c κs = search needs
+
+returns : tie.Need-returns
+returns c = search fills-past
+
+fill-back-numbers-requires : tie.Need-fill-back-numbers-requires
+fill-back-numbers-requires c κs = search needs
+
+same-length : tie.Need-same-length
+same-length c = search needs
+
+returns-2 : tie.Need-returns-2
+returns-2 c = search fills-within
+
+pub fill-back-first-spec : {M : Type 1} → statement M
+fill-back-first-spec =
+    tie.close
+    (tie.spec past-fault-requires returns fill-back-numbers-requires same-length returns-2)
