@@ -12,15 +12,12 @@ use Rattle.shift.specs.Shifts.{widthOf, valid, validNumber, shiftAt}
 use Rattle.shift.specs.Answers.{found, composed, toldComposed}
 use Rattle.shift.specs.Compose.{composeValid}
 use Rattle.shift.specs.declared.Shift.{Shift}
-use Rattle.shift.specs.declared.Found.{Found}
 use Rattle.shift.specs.declared.Found.the-variants as F
 use Rattle.shift.specs.declared.Composition.{Composition}
-use Rattle.shift.specs.declared.Composed.{Composed}
 use Rattle.shift.specs.declared.Composed.the-variants as C
 use Rattle.shift.proofs.Numbers.{valid-at}
 use Rattle.operand.specs.Push.{pushed, pushValid, toldPushed}
 use Rattle.operand.specs.declared.PushInner.{PushInner}
-use Rattle.operand.specs.declared.Pushed.{Pushed}
 use Rattle.operand.specs.declared.Pushed.the-variants as P
 use Rattle.lower.proofs.Firsts.{drop-step}
 use Rattle.tiwzerand.specs.Exported.{composedAt, composeTold, pushedAt, pushTold}
