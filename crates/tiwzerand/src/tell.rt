@@ -7,7 +7,6 @@ ghost use Rattle.word.specs.Answers.{given};
 ghost use Rattle.shift.specs.Shifts.{numberOf};
 ghost use Rattle.shift.specs.Answers as S;
 ghost use Rattle.operand.specs.Push as O;
-ghost use Rattle.house_file.specs.Reading.{toldRead};
 ghost use Rattle.house_file.specs.declared.Read.the-variants as R;
 ghost use Rattle.house_write.specs.Write.{toldWritten};
 ghost use Rattle.fusion.specs.declared.Fused.the-variants as F;
