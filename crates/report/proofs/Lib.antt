@@ -1,0 +1,4 @@
+pub mod Decimals
+pub mod Putting
+pub mod Coming
+pub mod Filing
