@@ -44,7 +44,7 @@ enum {
     TIWZERAND_MAX_WIRES = 4096,
     TIWZERAND_MAX_DEFINITIONS = 1024,
     TIWZERAND_MAX_OTHERS = 1024,                          /* And, Imul, Bmul and Zero together */
-    TIWZERAND_MAX_TERMS = 8192,                           /* of a system that is read, fused or filled back */
+    TIWZERAND_MAX_TERMS = 8192,                           /* read, fused or filled back; written or evaluated 24,576 in both stores */
     TIWZERAND_MAX_NEW_TERMS = 16384,                      /* written by fusing */
     TIWZERAND_AND_OPERANDS = 3,                           /* a, b, c */
     TIWZERAND_IMUL_OPERANDS = 4,                          /* a, b, hi, lo */

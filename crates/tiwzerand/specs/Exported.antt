@@ -6,7 +6,7 @@
 --   sizes              the sizes of a system, each handed in by itself
 --   composedAt         what `compose` answers of two shifts by number: 4 where a number is no valid shift's; composeTold, number and values
 --   pushedAt           what `push_inner` answers of three; pushTold, number and values
---   laidRead           the lent values after reading: on a refusal the offset stands first
+--   laidRead           the lent values after reading: on a refusal the offset stands first; GivesRead, these and the number
 --   Reads, FusesTo, Writes, Evaluates   what each function gives and leaves: an answer as the function below it gives one, and the number
 --                      and values of that answer. Filling back gives a number only: `FillsIs` of its crate says which.
 --
