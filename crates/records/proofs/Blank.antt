@@ -1,5 +1,5 @@
 -- The callees that the entries share, and the arrays that two of them make.
---     NoDsts, NoRhss, Unload, Holds, Looks, Faults    their contracts
+--     NoDsts, NoRhss, Unload, Reload, Holds, Looks, Faults    their contracts
 --     blank-dsts, blank-rhss    what the first two ask: nothing
 --     toHeld, asked-held, toLooked, asked-looked      `held` and `looked` are called with these, and ask nothing of them
 --     fits, room16, room64      an array's length is a number, and its elements have room
@@ -13,6 +13,7 @@ use Rattle.lower.proofs.Sizes.Laws as Z′
 use Rattle.records.proofs.no_dsts as no-dsts
 use Rattle.records.proofs.no_rhss as no-rhss
 use Rattle.records.proofs.unload as unload
+use Rattle.records.proofs.reload as reload
 use Rattle.records.proofs.held as held
 use Rattle.records.proofs.looked as looked
 use Rattle.records.proofs.records_fault as faults
@@ -35,6 +36,9 @@ module _ {M : Type 1} (𝓤 : URA M) (H : Heap 𝓤) (A : Atoms 𝓤) (mem : Mem
 
   abbrev pub Unload : Contract 𝓤
   Unload = tripleOf 𝓤 H A unload.signature (unload.spec 𝓤 H A mem run)
+
+  abbrev pub Reload : Contract 𝓤
+  Reload = tripleOf 𝓤 H A reload.signature (reload.spec 𝓤 H A mem run)
 
   abbrev pub Holds : Contract 𝓤
   Holds = tripleOf 𝓤 H A held.signature (held.spec 𝓤 H A mem run)

@@ -9,3 +9,4 @@ pub mod Spans
 pub mod Agree
 pub mod Past
 pub mod Wholes
+pub mod Readings

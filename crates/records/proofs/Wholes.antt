@@ -280,7 +280,7 @@ sets-own m l h =
     let k = length-take-le m l h in
     sets-front (take m l) l (omega (arith, k, h)) ∙ ap (λ (i : ℕ). take m l ++ drop i l) k ∙ take-append-drop m l
 
-sets-part : (m : ℕ) (l front : List ℕ) → m ≤ length l → length front ≤ m → sets l 0 (sets (take m l) 0 front) ≡ sets l 0 front
+pub sets-part : (m : ℕ) (l front : List ℕ) → m ≤ length l → length front ≤ m → sets l 0 (sets (take m l) 0 front) ≡ sets l 0 front
 sets-part m l front h k =
     let t = length-take-le m l h in
     let i : ℕ = length front in

@@ -102,7 +102,8 @@ fn read_numbers(
     )
 }
 
-// `read`, where the definitions are records. All of them are made anew, so a refusal, which leaves each number, leaves each record.
+// `read`, where the definitions are records. Those whose numbers were unloaded are made anew, so a refusal, which leaves each number, leaves
+// each record. A file has no more definitions than the arrays take, so none is read past them.
 pub fn read_records(
     input: &[u8],
     terms: &mut [u64],
@@ -112,13 +113,13 @@ pub fn read_records(
     zeros: &mut [u64],
     defs: &mut [Definition],
 ) -> Read
-    requires { ⌜ length (now defs) ≤ 1024 ⌝ }
     ensures { λ r. ⌜ ReadIs (now (input .entry)) (now (terms .entry)) (now (ands .entry)) (now (imuls .entry)) (now (bmuls .entry)) (now (zeros .entry)) (dstsOf (now (defs .entry))) (rhssOf (now (defs .entry))) r (now (terms .exit)) (now (ands .exit)) (now (imuls .exit)) (now (bmuls .exit)) (now (zeros .exit)) (dstsOf (now (defs .exit))) (rhssOf (now (defs .exit))) ⌝ }
 {
     let len = defs.len();
+    let m = crate::held(len);
     let mut dsts = crate::no_dsts();
     let mut rhss = crate::no_rhss();
-    crate::unload(&*defs, len, &mut dsts, &mut rhss);
+    crate::unload(&*defs, m, &mut dsts, &mut rhss);
     let read = read_numbers(
         input,
         terms,
@@ -128,8 +129,8 @@ pub fn read_records(
         zeros,
         &mut dsts,
         &mut rhss,
-        len,
+        m,
     );
-    crate::reload(defs, &dsts, &rhss, len);
+    crate::reload(defs, &dsts, &rhss, m);
     read
 }

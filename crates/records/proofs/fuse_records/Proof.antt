@@ -3,7 +3,7 @@ use native.Mathlib.Omega.{arith}
 use Rattle.records.proofs.Kit.{_≡_, refl, ap, _∙_, ℕ, _-_, _<_, _≤_, _^_, [], _∷_, List, length, length-map, take, URA, fullShare, named, w16, w64, tyInt, erased, w8, tyArray, Val, vint, SProp, ent, emp, via, fst∗, id⊢, Lft, Share, GName, Fml, ftrue, fat, froom, flft, flent, Memory, Routine, Heap, WpFn, Tables, Calls, Loops, Atoms, Fun, fact, givenOf, tables, tablesOf, Given, Item, ‵, _⊛_, ⋆, _$_, _∵_, !, qed, by, move, keep, drop, use1, split, join, rewrite, fsplit, fjoin, suffices, frame, done, raw, some, later, cut, use0, use2, use3, pick, await, feqL, look, init, store, forget, stop, hop, fld, from, load, of-opd, and-then, no-more, assigns, returns, enter, alloc1, alloc0, params1, pass1, pass0, free1, free0, addr, land, agg, whole, sub, look-in, WpFn-mono, FmC, fmOf, RattleType, owns, Is, shows, uint-vals, uint-tells, uint-makes, uint-lawful, nothing-lawful, u16, u64, usize, u8, unit, RefT, sliceVal, slice-vals, mut-slice-tells, shr-slice-tells, shr-slice-copy, MutSlice, ShrSlice, Room, finally, Held, owned, nothing, only, peeks, heard, Vals, onEntry, Meets, tripleOf, entered, cited, says, Stays, walkOf, Walks, ends-at, walked, walk-meets, gave-slice, stay-dropped, goes-gave-slice, goes-dropped, yes, plain, shrSliceOf, lft-new, lft-end, lent-back, Array, array-lawful, Contract, Triple, calls-at, ensured, lasts}
 use Rattle.records.proofs.Arrays.{InMemory, array-in, array-room, lends-mut, mut-back, lends-shr, big}
 use Rattle.records.proofs.Shared.{LentShared, shares-again, shared-back}
-use Rattle.records.proofs.Blank.{NoDsts, NoRhss, Unload, Holds, toHeld, asked-held, Looks, toLooked, asked-looked, Faults, blank-dsts, blank-rhss, fits, room16, room64}
+use Rattle.records.proofs.Blank.{NoDsts, NoRhss, Unload, Reload, Holds, toHeld, asked-held, Looks, toLooked, asked-looked, Faults, blank-dsts, blank-rhss, fits, room16, room64}
 use Rattle.records.proofs.Parts.{front-some, reloaded-dsts, reloaded-rhss}
 use Rattle.records.proofs.Wholes.{looked-in, held-in, fuses-records}
 use denote.Struct.Laws as LL
@@ -65,12 +65,9 @@ R = T.the-row
 abbrev stayed : Stays (entry.ended .signature .params) (entry.ended .kept)
 stayed = (stay-dropped (shrSliceOf (0 ∷ []) tt (plain (λ _. u64))) yes, (gave-slice (1 ∷ []) tt (plain (λ _. u64)), (gave-slice (2 ∷ []) tt (plain (λ _. u64)), (gave-slice (3 ∷ []) tt (plain (λ _. u64)), (gave-slice (4 ∷ []) tt (plain (λ _. u64)), (gave-slice (5 ∷ []) tt (plain (λ _. u64)), (gave-slice (6 ∷ []) tt (plain (λ _. R)), (gave-slice (7 ∷ []) tt (plain (λ _. u8)), (stay-dropped (plain (λ _. Z.the-row)) yes, (stay-dropped (plain (λ _. u64)) yes, tt))))))))))
 
--- the other contracts that the proof cites
+-- the other contract that the proof cites
 abbrev Fuse : {M : Type 1} (𝓤 : URA M) (H : Heap 𝓤) (A : Atoms 𝓤) (mem : Memory → SProp 𝓤) (run : Routine → Fun 𝓤) → Contract 𝓤
 Fuse 𝓤 H A mem run = tripleOf 𝓤 H A fuse.signature (fuse.spec 𝓤 H A mem run)
-
-abbrev Reload : {M : Type 1} (𝓤 : URA M) (H : Heap 𝓤) (A : Atoms 𝓤) (mem : Memory → SProp 𝓤) (run : Routine → Fun 𝓤) → Contract 𝓤
-Reload 𝓤 H A mem run = tripleOf 𝓤 H A reload.signature (reload.spec 𝓤 H A mem run)
 
 module _ {M : Type 1} (𝓤 : URA M) (H : Heap 𝓤) (A : Atoms 𝓤) (W : Given 𝓤 H A) (mem : Memory → SProp 𝓤) (run : Routine → Fun 𝓤)
     (κ₁ κ₂ κ₃ κ₄ κ₅ κ₆ κ₇ κ₈ : Lft) (q₁ q₂ q₃ q₄ q₅ q₆ q₇ q₈ : Share) (x₁ x₂ x₃ x₄ x₅ x₆ : RefT (List ℕ)) (b o : ℕ) (γ : GName) (ys : List Definition) (x₈ : RefT (List ℕ)) (z : Sizes) (slots : ℕ)
