@@ -10,3 +10,4 @@ pub mod Agree
 pub mod Past
 pub mod Wholes
 pub mod Readings
+pub mod Writings
