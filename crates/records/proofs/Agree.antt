@@ -139,3 +139,8 @@ module _ (s terms ands imuls bmuls zeros : List ℕ) (ds : List Definition) (r r
         zeros-same = p .zeros-same;
         defs-same = records-same d d₂ (p .dsts-same) (p .rhss-same);
       }
+
+  -- reading to the records' numbers answers the same and leaves the numbers of the records that reading to records leaves
+  pub reading-agrees : (t a i b o : List ℕ) (d : List Definition) (t₂ a₂ i₂ b₂ o₂ d₂ h₂ : List ℕ) → ReadIs s terms ands imuls bmuls zeros (dstsOf ds) (rhssOf ds) r t a i b o (dstsOf d) (rhssOf d)
+      → ReadIs s terms ands imuls bmuls zeros (dstsOf ds) (rhssOf ds) r₂ t₂ a₂ i₂ b₂ o₂ d₂ h₂ → Same r r₂ t a i b o (dstsOf d) (rhssOf d) t₂ a₂ i₂ b₂ o₂ d₂ h₂
+  reading-agrees t a i b o d t₂ a₂ i₂ b₂ o₂ d₂ h₂ x y = read-once r r₂ t a i b o (dstsOf d) (rhssOf d) t₂ a₂ i₂ b₂ o₂ d₂ h₂ x y

@@ -1,11 +1,14 @@
 -- The callees that the entries share, and the arrays that two of them make.
---     NoDsts, NoRhss, Unload, Holds, Looks, Faults    their contracts
+--     NoDsts, NoRhss, Unload, Reload, Holds, Looks, NoTerms, Faults    their contracts
 --     blank-dsts, blank-rhss    what the first two ask: nothing
 --     toHeld, asked-held, toLooked, asked-looked      `held` and `looked` are called with these, and ask nothing of them
+--     slice-typed               a slice that a call gave fits a local
 --     fits, room16, room64      an array's length is a number, and its elements have room
 -- The lemmas under a model assume `Given`.
 use native.Mathlib.Omega.{arith}
-use Rattle.records.proofs.Kit.{refl, ℕ, _<_, _^_, [], _∷_, w64, vint, URA, SProp, ent, Memory, Routine, Heap, Atoms, Fun, Given, ⋆, _$_, _∵_, !, qed, join, fjoin, frame, done, Is, uint-makes, Room, u16, u64, usize, owned, nothing, Contract, tripleOf}
+use lib.Dec.{T}
+use mir.Val.{WT, hasTy}
+use Rattle.records.proofs.Kit.{_≡_, refl, sym, subst, ℕ, _<_, _^_, [], _∷_, List, length, imm, w64, tyInt, tyRef, erased, Val, vint, URA, SProp, ent, Memory, Routine, Heap, Atoms, Fun, Given, ⋆, _$_, _∵_, !, qed, join, fjoin, frame, done, Is, uint-makes, RefT, sliceTy, slice-vals, Room, u16, u64, usize, owned, nothing, only, Contract, tripleOf}
 use denote.Struct.Laws as LL
 use Rattle.lower.specs.declared.Sizes.{Sizes}
 use Rattle.lower.proofs.Sizes as Z
@@ -13,9 +16,14 @@ use Rattle.lower.proofs.Sizes.Laws as Z′
 use Rattle.records.proofs.no_dsts as no-dsts
 use Rattle.records.proofs.no_rhss as no-rhss
 use Rattle.records.proofs.unload as unload
+use Rattle.records.proofs.reload as reload
 use Rattle.records.proofs.held as held
 use Rattle.records.proofs.looked as looked
+use Rattle.records.proofs.no_terms as no-terms
 use Rattle.records.proofs.records_fault as faults
+
+pub slice-typed : (x : RefT (List ℕ)) (u : Val) → u ∷ [] ≡ slice-vals x → Room u64 (length (x .now)) → T (hasTy (sliceTy (tyRef erased imm (tyInt w64))) u) × WT u
+slice-typed x u e room = subst (λ (vs : List Val). T (hasTy (sliceTy (tyRef erased imm (tyInt w64))) (only vs)) × WT (only vs)) (sym e) (tt, (tt, (record { fits = room .0 }, tt)))
 
 pub fits : 1024 < 2 ^ 64
 fits = omega arith
@@ -36,6 +44,9 @@ module _ {M : Type 1} (𝓤 : URA M) (H : Heap 𝓤) (A : Atoms 𝓤) (mem : Mem
   abbrev pub Unload : Contract 𝓤
   Unload = tripleOf 𝓤 H A unload.signature (unload.spec 𝓤 H A mem run)
 
+  abbrev pub Reload : Contract 𝓤
+  Reload = tripleOf 𝓤 H A reload.signature (reload.spec 𝓤 H A mem run)
+
   abbrev pub Holds : Contract 𝓤
   Holds = tripleOf 𝓤 H A held.signature (held.spec 𝓤 H A mem run)
 
@@ -47,6 +58,9 @@ module _ {M : Type 1} (𝓤 : URA M) (H : Heap 𝓤) (A : Atoms 𝓤) (mem : Mem
 
   abbrev pub toLooked : ℕ → Sizes → Looks .Ghost
   toLooked len z = ((tt, tt, tt, (len, (z, tt)), (vint w64 len ∷ [], (LL.val Z.the-type Z′.the-laws z ∷ [], tt))), tt)
+
+  abbrev pub NoTerms : Contract 𝓤
+  NoTerms = tripleOf 𝓤 H A no-terms.signature (no-terms.spec 𝓤 H A mem run)
 
   abbrev pub Faults : Contract 𝓤
   Faults = tripleOf 𝓤 H A faults.signature (faults.spec 𝓤 H A mem run)

@@ -9,3 +9,5 @@ pub mod Spans
 pub mod Agree
 pub mod Past
 pub mod Wholes
+pub mod Readings
+pub mod Writings

@@ -2,9 +2,9 @@
 use mathlib.Core.Path.{_≡_, refl, sym, ap, subst, _∙_}
 use Prim.Native.Nat.{ℕ, zero, suc, _+_, _-_, _≤_}
 use native.Mathlib.Nat.{sub-zero}
-use mathlib.Core.List.{List, [], _∷_, _++_, map, append-nil}
+use mathlib.Core.List.{List, [], _∷_, _++_, map}
 use native.Mathlib.Omega.{arith}
-use lib.ListN.{length, take, drop, set, drop-of-length-le}
+use lib.ListN.{length, take, drop, set}
 use lib.Seq.{sets, sets-eq, take-all, take-take, take-append-seam, length-take-le}
 use Rattle.word.specs.Answers.{Told}
 use Rattle.lower.specs.declared.Sizes.{Sizes}
@@ -16,7 +16,7 @@ use Rattle.records.specs.Records.{dstsOf, rhssOf, unloaded, made, reload
 use Rattle.records.specs.declared.Definition.{Definition}
 
 -- all of ns stands in front
-pub front-all : (l ns : List ℕ) (n : ℕ) → length ns ≡ n → n ≤ length l → take n (unloaded l ns n) ≡ ns
+front-all : (l ns : List ℕ) (n : ℕ) → length ns ≡ n → n ≤ length l → take n (unloaded l ns n) ≡ ns
 front-all l ns n e h =
     let k : take n ns ≡ ns = take-all n ns (omega (arith, e)) in
     ap (λ (vs : List ℕ). take n (sets l 0 vs)) k
@@ -85,11 +85,3 @@ module _ (l : List Definition) (ds rs : List ℕ) (n : ℕ) (p : n ≤ length ds
   reloaded-rhss =
       map-sets (λ (d : Definition). d .rhs) l 0 (made (take n ds) (take n rs))
       ∙ ap (sets (rhssOf l) 0) (made-rhss (take n ds) (take n rs) (omega (arith, length-take-le n ds p, length-take-le n rs q)))
-
--- where all are stored anew, nothing is left of what was there
-pub all-anew : (l ns : List ℕ) (n : ℕ) → length l ≡ n → n ≤ length ns → unloaded l ns n ≡ take n ns
-all-anew l ns n e h =
-    let k : length (take n ns) ≡ n = length-take-le n ns h in
-    sets-eq (take n ns) l 0 (omega (arith, e, k))
-    ∙ ap (λ (r : List ℕ). take n ns ++ r) (drop-of-length-le l {i = 0 + length (take n ns)} (omega (arith, e, k)))
-    ∙ append-nil (take n ns)

@@ -19,7 +19,13 @@ use Rattle.fusion.specs.Left.{Lent}
 use Rattle.fusion.specs.Answer.{toldFused, Fuses}
 use Rattle.fusion.specs.declared.Fused.the-variants.{Refused}
 use Rattle.fill_back.specs.Filling.{FillsIs}
-use Rattle.records.specs.Records.{held, looked, rowsOnly, pastFault, FillsFirst, filledFirst, filledPast, FusesFirst, fusedFirst, fusedPast}
+use Rattle.house_write.specs.Write.{WriteIs}
+use Rattle.house_write.specs.declared.Written.{Written}
+use Rattle.house_write.specs.declared.Written.the-variants as W
+use Rattle.evaluate.specs.Evaluation.{EvaluateIs}
+use Rattle.evaluate.specs.declared.Evaluated.{Evaluated}
+use Rattle.evaluate.specs.declared.Evaluated.the-variants as E
+use Rattle.records.specs.Records.{held, looked, rowsOnly, pastFault, FillsFirst, filledFirst, filledPast, FusesFirst, fusedFirst, fusedPast, WritesFirst, writtenFirst, writtenPast, EvaluatesFirst, evaluatedFirst, evaluatedPast}
 
 -- ---- how many
 pub held-over : (len : ℕ) → 1024 < len → 1024 ≡ held len
@@ -66,9 +72,9 @@ module _ (limit : ℕ) (z : Sizes) (s : Stores) (r : ℕ) (e : r ≡ memoryFault
 abbrev one : ℕ → Sizes
 one wires = record { wires = wires; ands = 0; imuls = 0; bmuls = 0; zeros = 0; linears = 1 }
 
-pub pair-placed : (r wires : ℕ) (old : List ℕ) (d h : ℕ) → r ≡ placesFault (one wires) (stores old [] [] [] [] [] (d ∷ []) (h ∷ [])) → r ≡ pairsFault wires old [] (d ∷ []) (h ∷ [])
+pub pair-placed : (r wires : ℕ) (old new : List ℕ) (d h : ℕ) → r ≡ placesFault (one wires) (stores old new [] [] [] [] (d ∷ []) (h ∷ [])) → r ≡ pairsFault wires old new (d ∷ []) (h ∷ [])
 unfolding placesFault rowsFault definitionsFault
-pair-placed r wires old d h e = e
+pair-placed r wires old new d h e = e
 
 pub next-kept : (fault b : ℕ) → (fault ≡ 0 → ⊥) → fault ≡ orElse fault b
 next-kept fault b h = sym (else-some fault b h)
@@ -81,39 +87,55 @@ none-placed : (wires : ℕ) (old new ds hs : List ℕ) → definitionsFault wire
 unfolding definitionsFault
 none-placed wires old new ds hs = rw (le-leb 0 (length ds) (omega arith), le-leb 0 (length hs) (omega arith))
 
-pub rows-placed : (z : Sizes) (old new ands imuls bmuls zeros ds rs : List ℕ)
+rows-placed : (z : Sizes) (old new ands imuls bmuls zeros ds rs : List ℕ)
     → placesFault (rowsOnly z) (stores old new ands imuls bmuls zeros ds rs) ≡ placesFault (rowsOnly z) (stores old new ands imuls bmuls zeros [] [])
 unfolding placesFault
 rows-placed z old new ands imuls bmuls zeros ds rs = rw (none-placed (z .wires) old new ds rs, none-placed (z .wires) old new [] [])
 
-module _ (z : Sizes) (old ands imuls bmuls zeros ds rs : List ℕ) (fault r : ℕ) (e : r ≡ placesFault (rowsOnly z) (stores old [] ands imuls bmuls zeros ds rs)) where
-  rows : r ≡ placesFault (rowsOnly z) (stores old [] ands imuls bmuls zeros [] [])
-  rows = e ∙ rows-placed z old [] ands imuls bmuls zeros ds rs
+module _ (z : Sizes) (old new ands imuls bmuls zeros ds rs : List ℕ) (fault r : ℕ) (e : r ≡ placesFault (rowsOnly z) (stores old new ands imuls bmuls zeros ds rs)) where
+  rows : r ≡ placesFault (rowsOnly z) (stores old new ands imuls bmuls zeros [] [])
+  rows = e ∙ rows-placed z old new ands imuls bmuls zeros ds rs
 
-  pub past-rows : (r ≡ 0 → ⊥) → r ≡ pastFault z old ands imuls bmuls zeros fault
+  pub past-rows : (r ≡ 0 → ⊥) → r ≡ pastFault z old new ands imuls bmuls zeros fault
   unfolding pastFault
   past-rows h = sym (else-some r (orElse fault 6) h) ∙ ap (λ (n : ℕ). orElse n (orElse fault 6)) rows
 
-  pub past-given : r ≡ 0 → (fault ≡ 0 → ⊥) → fault ≡ pastFault z old ands imuls bmuls zeros fault
+  pub past-given : r ≡ 0 → (fault ≡ 0 → ⊥) → fault ≡ pastFault z old new ands imuls bmuls zeros fault
   unfolding pastFault
   past-given h k = sym (else-some fault 6 k) ∙ sym (else-none r (orElse fault 6) h) ∙ ap (λ (n : ℕ). orElse n (orElse fault 6)) rows
 
-  pub past-full : r ≡ 0 → fault ≡ 0 → 6 ≡ pastFault z old ands imuls bmuls zeros fault
+  pub past-full : r ≡ 0 → fault ≡ 0 → 6 ≡ pastFault z old new ands imuls bmuls zeros fault
   unfolding pastFault
   past-full h k = sym (else-none fault 6 k) ∙ sym (else-none r (orElse fault 6) h) ∙ ap (λ (n : ℕ). orElse n (orElse fault 6)) rows
 
 -- ---- the answers
 module _ (n fault : ℕ) (z : Sizes) (old ands imuls bmuls zeros ds rs flags ws ws′ : List ℕ) (r : ℕ) where
-  pub fills-past : (n ≡ 0 → ⊥) → r ≡ pastFault z old ands imuls bmuls zeros fault → ws′ ≡ ws → FillsFirst n fault z (stores old [] ands imuls bmuls zeros ds rs) flags ws ws′ r
+  pub fills-past : (n ≡ 0 → ⊥) → r ≡ pastFault z old [] ands imuls bmuls zeros fault → ws′ ≡ ws → FillsFirst n fault z (stores old [] ands imuls bmuls zeros ds rs) flags ws ws′ r
   fills-past h e k = filledPast h e k
 
   pub fills-within : n ≡ 0 → FillsIs z (stores old [] ands imuls bmuls zeros ds rs) flags ws ws′ r → FillsFirst n fault z (stores old [] ands imuls bmuls zeros ds rs) flags ws ws′ r
   fills-within h f = filledFirst h f
 
 module _ (n fault slots : ℕ) (z : Sizes) (l l′ : Lent) where
-  pub fuses-past : (r : ℕ) → (n ≡ 0 → ⊥) → r ≡ pastFault z (l .old) (l .ands) (l .imuls) (l .bmuls) (l .zeros) fault → l′ ≡ l → FusesFirst n fault slots z l l′ (toldFused (Refused r))
+  pub fuses-past : (r : ℕ) → (n ≡ 0 → ⊥) → r ≡ pastFault z (l .old) [] (l .ands) (l .imuls) (l .bmuls) (l .zeros) fault → l′ ≡ l → FusesFirst n fault slots z l l′ (toldFused (Refused r))
   unfolding toldFused
   fuses-past r h e k = fusedPast h e k
 
   pub fuses-within : (t : Told) → n ≡ 0 → Fuses slots z l l′ t → FusesFirst n fault slots z l l′ t
   fuses-within t h f = fusedFirst h f
+
+module _ (n fault : ℕ) (z : Sizes) (old new ands imuls bmuls zeros ds rs out out′ : List ℕ) where
+  abbrev S : Stores
+  S = stores old new ands imuls bmuls zeros ds rs
+
+  pub writes-past : (r : ℕ) → (n ≡ 0 → ⊥) → r ≡ pastFault z old new ands imuls bmuls zeros fault → out′ ≡ out → WritesFirst n fault z S out out′ (W.Refused r)
+  writes-past r h e k = writtenPast h e k
+
+  pub writes-within : (r : Written) → n ≡ 0 → WriteIs z S out r out′ → WritesFirst n fault z S out out′ r
+  writes-within r h f = writtenFirst h f
+
+  pub evaluates-past : (ws : List ℕ) (r : ℕ) → (n ≡ 0 → ⊥) → r ≡ pastFault z old new ands imuls bmuls zeros fault → out′ ≡ out → EvaluatesFirst n fault z S ws out out′ (E.Refused r)
+  evaluates-past ws r h e k = evaluatedPast h e k
+
+  pub evaluates-within : (ws : List ℕ) (r : Evaluated) → n ≡ 0 → EvaluateIs z S ws out r out′ → EvaluatesFirst n fault z S ws out out′ r
+  evaluates-within ws r h f = evaluatedFirst h f

@@ -20,23 +20,11 @@ module _ (z : Sizes) (old new ands imuls bmuls zeros dsts rhss ws out out′ : L
       → EvaluateIs z (stores old new ands imuls bmuls zeros (take n dsts) (take n rhss)) ws out r out′
   evaluates-part n h = subst (λ (k : ℕ). EvaluateIs z (stores old new ands imuls bmuls zeros (take k dsts) (take k rhss)) ws out r out′) (sub-zero n) h
 
-  pub evaluates-same : (ds rs : List ℕ) → dsts ≡ ds → rhss ≡ rs → EvaluateIs z (stores old new ands imuls bmuls zeros dsts rhss) ws out r out′
-      → EvaluateIs z (stores old new ands imuls bmuls zeros ds rs) ws out r out′
-  evaluates-same ds rs d e h =
-      subst (λ (l : List ℕ). EvaluateIs z (stores old new ands imuls bmuls zeros l rs) ws out r out′) d
-      (subst (λ (l : List ℕ). EvaluateIs z (stores old new ands imuls bmuls zeros dsts l) ws out r out′) e h)
-
 -- ---- writing
 module _ (z : Sizes) (old new ands imuls bmuls zeros dsts rhss out out′ : List ℕ) (r : Written) where
   pub writes-part : (n : ℕ) → WriteIs z (stores old new ands imuls bmuls zeros (take (n - 0) (drop 0 dsts)) (take (n - 0) (drop 0 rhss))) out r out′
       → WriteIs z (stores old new ands imuls bmuls zeros (take n dsts) (take n rhss)) out r out′
   writes-part n h = subst (λ (k : ℕ). WriteIs z (stores old new ands imuls bmuls zeros (take k dsts) (take k rhss)) out r out′) (sub-zero n) h
-
-  pub writes-same : (ds rs : List ℕ) → dsts ≡ ds → rhss ≡ rs → WriteIs z (stores old new ands imuls bmuls zeros dsts rhss) out r out′
-      → WriteIs z (stores old new ands imuls bmuls zeros ds rs) out r out′
-  writes-same ds rs d e h =
-      subst (λ (l : List ℕ). WriteIs z (stores old new ands imuls bmuls zeros l rs) out r out′) d
-      (subst (λ (l : List ℕ). WriteIs z (stores old new ands imuls bmuls zeros dsts l) out r out′) e h)
 
 -- ---- reading
 module _ (s terms ands imuls bmuls zeros dsts rhss : List ℕ) (r : Read) (terms′ ands′ imuls′ bmuls′ zeros′ ds′ rs′ : List ℕ) where
@@ -47,11 +35,3 @@ module _ (s terms ands imuls bmuls zeros dsts rhss : List ℕ) (r : Read) (terms
       subst (λ (l : List ℕ). ReadIs s terms ands imuls bmuls zeros (take n dsts) (take n rhss) r terms′ ands′ imuls′ bmuls′ zeros′ (take n (ds′ ++ drop (n - 0) (drop 0 dsts))) l) (back-front rhss rs′ n k e)
       (subst (λ (l : List ℕ). ReadIs s terms ands imuls bmuls zeros (take n dsts) (take n rhss) r terms′ ands′ imuls′ bmuls′ zeros′ l rs′) (back-front dsts ds′ n h d)
       (subst (λ (i : ℕ). ReadIs s terms ands imuls bmuls zeros (take i dsts) (take i rhss) r terms′ ands′ imuls′ bmuls′ zeros′ ds′ rs′) (sub-zero n) f))
-
-  pub reads-same : (d e d′ e′ : List ℕ) → dsts ≡ d → rhss ≡ e → ds′ ≡ d′ → rs′ ≡ e′ → ReadIs s terms ands imuls bmuls zeros dsts rhss r terms′ ands′ imuls′ bmuls′ zeros′ ds′ rs′
-      → ReadIs s terms ands imuls bmuls zeros d e r terms′ ands′ imuls′ bmuls′ zeros′ d′ e′
-  reads-same d e d′ e′ e₁ e₂ e₃ e₄ f =
-      subst (λ (l : List ℕ). ReadIs s terms ands imuls bmuls zeros l e r terms′ ands′ imuls′ bmuls′ zeros′ d′ e′) e₁
-      (subst (λ (l : List ℕ). ReadIs s terms ands imuls bmuls zeros dsts l r terms′ ands′ imuls′ bmuls′ zeros′ d′ e′) e₂
-      (subst (λ (l : List ℕ). ReadIs s terms ands imuls bmuls zeros dsts rhss r terms′ ands′ imuls′ bmuls′ zeros′ l e′) e₃
-      (subst (λ (l : List ℕ). ReadIs s terms ands imuls bmuls zeros dsts rhss r terms′ ands′ imuls′ bmuls′ zeros′ ds′ l) e₄ f)))

@@ -65,6 +65,15 @@ kept-first : (x y : ℕ) → (x ≡ 0 → ⊥) → orElse x y ≡ x
 kept-first zero y h = absurd (h refl)
 kept-first (suc x) y h = refl
 
+-- the first fault is the same, and is one
+abbrev pub Same : ℕ → ℕ → Type 0
+Same a b = (a ≡ b) × (a ≡ 0 → ⊥)
+
+pub same-after : (a a′ b b′ : ℕ) → Same a a′ → Same (orElse a b) (orElse a′ b′)
+same-after a a′ b b′ h =
+    let x : orElse a b ≡ a = kept-first a b (h .1) in
+    (x ∙ h .0 ∙ sym (kept-first a′ b′ (λ o. h .1 (h .0 ∙ o))), λ o. h .1 (sym x ∙ o))
+
 else-six : (b : Bool) (n : ℕ) → n ≡ 6 → orElse (unless b 6) n ≡ 6
 else-six true n h = h
 else-six false n h = refl
@@ -75,20 +84,20 @@ five zero zero (suc c) d x = refl
 five zero (suc b) c d x = refl
 five (suc a) b c d x = refl
 
-rows-first : (z : Sizes) (old ands imuls bmuls zeros ds rs : List ℕ)
-    → placesFault z (stores old [] ands imuls bmuls zeros ds rs) ≡ orElse (placesFault (rowsOnly z) (stores old [] ands imuls bmuls zeros [] [])) (definitionsFault (z .wires) old [] (z .linears) ds rs)
+rows-first : (z : Sizes) (old new ands imuls bmuls zeros ds rs : List ℕ)
+    → placesFault z (stores old new ands imuls bmuls zeros ds rs) ≡ orElse (placesFault (rowsOnly z) (stores old new ands imuls bmuls zeros [] [])) (definitionsFault (z .wires) old new (z .linears) ds rs)
 unfolding placesFault definitionsFault
-rows-first z old ands imuls bmuls zeros ds rs =
-    five (rowsFault (z .wires) old [] 3 (z .ands) ands) (rowsFault (z .wires) old [] 4 (z .imuls) imuls) (rowsFault (z .wires) old [] 6 (z .bmuls) bmuls) (rowsFault (z .wires) old [] 1 (z .zeros) zeros)
-    (definitionsFault (z .wires) old [] (z .linears) ds rs)
+rows-first z old new ands imuls bmuls zeros ds rs =
+    five (rowsFault (z .wires) old new 3 (z .ands) ands) (rowsFault (z .wires) old new 4 (z .imuls) imuls) (rowsFault (z .wires) old new 6 (z .bmuls) bmuls) (rowsFault (z .wires) old new 1 (z .zeros) zeros)
+    (definitionsFault (z .wires) old new (z .linears) ds rs)
 
 -- ---- the definitions' fault
-module _ (w : ℕ) (old : List ℕ) (n : ℕ) (ds rs : List ℕ) where
-  long-fault : n ≤ length ds → n ≤ length rs → definitionsFault w old [] n ds rs ≡ pairsFault w old [] (take n ds) (take n rs)
+module _ (w : ℕ) (old new : List ℕ) (n : ℕ) (ds rs : List ℕ) where
+  long-fault : n ≤ length ds → n ≤ length rs → definitionsFault w old new n ds rs ≡ pairsFault w old new (take n ds) (take n rs)
   unfolding definitionsFault
   long-fault a b = rw (le-leb n (length ds) a, le-leb n (length rs) b)
 
-  short-fault : length ds < n → definitionsFault w old [] n ds rs ≡ 3
+  short-fault : length ds < n → definitionsFault w old new n ds rs ≡ 3
   unfolding definitionsFault
   short-fault a = rw (lt-leb n (length ds) a)
 
@@ -100,7 +109,7 @@ full-over limit z terms h =
 
 module _ (len : ℕ) (z : Sizes) where
   -- a number that is looked at is that of the definitions
-  pub looked-is : (n : ℕ) → n ≡ looked len z → (n ≡ 0 → ⊥) → (n ≡ z .linears) × (1024 < z .linears) × (z .linears ≤ len)
+  looked-is : (n : ℕ) → n ≡ looked len z → (n ≡ 0 → ⊥) → (n ≡ z .linears) × (1024 < z .linears) × (z .linears ≤ len)
   looked-is n e h =
       ⊎-elim (λ over. ⊎-elim (λ short. absurd (h (e ∙ sym (looked-short len z over short)))) (λ all. (e ∙ sym (looked-all len z over all), over, all)) (lt-or-le len (z .linears)))
       (λ few. absurd (h (e ∙ sym (looked-few len z few)))) (lt-or-le 1024 (z .linears))
@@ -122,63 +131,63 @@ held-or-short len m n z e k h =
     (λ few. inr (⊎-elim (λ o. omega (arith, few, e ∙ sym (held-over len o))) (λ a. omega (arith, enough, e ∙ sym (held-all len a))) (lt-or-le 1024 len))) (lt-or-le 1024 (z .linears)))
     (lt-or-le len (z .linears))
 
-module _ (z : Sizes) (old ands imuls bmuls zeros ds rs : List ℕ) where
+module _ (z : Sizes) (old new ands imuls bmuls zeros ds rs : List ℕ) where
   abbrev All : Stores
-  All = stores old [] ands imuls bmuls zeros ds rs
+  All = stores old new ands imuls bmuls zeros ds rs
 
-  module _ (n fault : ℕ) (e : n ≡ looked (length ds) z) (more : n ≡ 0 → ⊥) (same : length rs ≡ length ds) (f : fault ≡ pairsFault (z .wires) old [] (take n ds) (take n rs)) where
-    past-memory : (limit : ℕ) → memoryFault limit z All ≡ pastFault z old ands imuls bmuls zeros fault
+  module _ (n fault : ℕ) (e : n ≡ looked (length ds) z) (more : n ≡ 0 → ⊥) (same : length rs ≡ length ds) (f : fault ≡ pairsFault (z .wires) old new (take n ds) (take n rs)) where
+    past-memory : (limit : ℕ) → memoryFault limit z All ≡ pastFault z old new ands imuls bmuls zeros fault
     unfolding memoryFault pastFault
     past-memory limit =
         let is = looked-is (length ds) z n e more in
-        let P : ℕ = placesFault (rowsOnly z) (stores old [] ands imuls bmuls zeros [] []) in
-        let d : definitionsFault (z .wires) old [] (z .linears) ds rs ≡ fault =
-        long-fault (z .wires) old (z .linears) ds rs (is .2) (omega (arith, is .2, same)) ∙ ap (λ (i : ℕ). pairsFault (z .wires) old [] (take i ds) (take i rs)) (sym (is .0)) ∙ sym f in
-        ap₂ {C = ℕ} orElse (rows-first z old ands imuls bmuls zeros ds rs ∙ ap (orElse P) d) (full-over limit z (termsIn z All) (is .1))
+        let P : ℕ = placesFault (rowsOnly z) (stores old new ands imuls bmuls zeros [] []) in
+        let d : definitionsFault (z .wires) old new (z .linears) ds rs ≡ fault =
+        long-fault (z .wires) old new (z .linears) ds rs (is .2) (omega (arith, is .2, same)) ∙ ap (λ (i : ℕ). pairsFault (z .wires) old new (take i ds) (take i rs)) (sym (is .0)) ∙ sym f in
+        ap₂ {C = ℕ} orElse (rows-first z old new ands imuls bmuls zeros ds rs ∙ ap (orElse P) d) (full-over limit z (termsIn z All) (is .1))
         ∙ else-assoc P fault 6
 
-  past-not : (fault : ℕ) → pastFault z old ands imuls bmuls zeros fault ≡ 0 → ⊥
+  past-not : (fault : ℕ) → pastFault z old new ands imuls bmuls zeros fault ≡ 0 → ⊥
   unfolding pastFault
-  past-not fault = else-not (placesFault (rowsOnly z) (stores old [] ands imuls bmuls zeros [] [])) (orElse fault 6) (else-not fault 6 (λ x. omega (arith, x)))
+  past-not fault = else-not (placesFault (rowsOnly z) (stores old new ands imuls bmuls zeros [] [])) (orElse fault 6) (else-not fault 6 (λ x. omega (arith, x)))
 
   -- ---- the first m numbers
   module _ (m : ℕ) where
     abbrev Few : Stores
-    Few = stores old [] ands imuls bmuls zeros (take m ds) (take m rs)
+    Few = stores old new ands imuls bmuls zeros (take m ds) (take m rs)
 
     module _ (k : z .linears ≤ m) (p : m ≤ length ds) (q : m ≤ length rs) where
-      same-definitions : definitionsFault (z .wires) old [] (z .linears) (take m ds) (take m rs) ≡ definitionsFault (z .wires) old [] (z .linears) ds rs
+      same-definitions : definitionsFault (z .wires) old new (z .linears) (take m ds) (take m rs) ≡ definitionsFault (z .wires) old new (z .linears) ds rs
       same-definitions =
-          long-fault (z .wires) old (z .linears) (take m ds) (take m rs) (omega (arith, k, length-take-le m ds p)) (omega (arith, k, length-take-le m rs q))
-          ∙ ap₂ {C = ℕ} (pairsFault (z .wires) old []) (take-take (z .linears) m ds k) (take-take (z .linears) m rs k)
-          ∙ sym (long-fault (z .wires) old (z .linears) ds rs (omega (arith, k, p)) (omega (arith, k, q)))
+          long-fault (z .wires) old new (z .linears) (take m ds) (take m rs) (omega (arith, k, length-take-le m ds p)) (omega (arith, k, length-take-le m rs q))
+          ∙ ap₂ {C = ℕ} (pairsFault (z .wires) old new) (take-take (z .linears) m ds k) (take-take (z .linears) m rs k)
+          ∙ sym (long-fault (z .wires) old new (z .linears) ds rs (omega (arith, k, p)) (omega (arith, k, q)))
 
-      pub same-system : systemOf z Few ≡ systemOf z All
+      same-system : systemOf z Few ≡ systemOf z All
       unfolding systemOf
       same-system = rw (take-take (z .linears) m ds k, take-take (z .linears) m rs k)
 
-      pub same-memory : (limit : ℕ) → memoryFault limit z Few ≡ memoryFault limit z All
+      same-memory : (limit : ℕ) → memoryFault limit z Few ≡ memoryFault limit z All
       unfolding memoryFault
       same-memory limit =
           ap₂ {C = ℕ} orElse
-          (rows-first z old ands imuls bmuls zeros (take m ds) (take m rs) ∙ ap (orElse (placesFault (rowsOnly z) (stores old [] ands imuls bmuls zeros [] []))) same-definitions ∙ sym (rows-first z old ands imuls bmuls zeros ds rs))
+          (rows-first z old new ands imuls bmuls zeros (take m ds) (take m rs) ∙ ap (orElse (placesFault (rowsOnly z) (stores old new ands imuls bmuls zeros [] []))) same-definitions ∙ sym (rows-first z old new ands imuls bmuls zeros ds rs))
           (ap (λ (l : List ℕ). fullFault limit z (sumOf lengthOf (rowHandles z ands imuls bmuls zeros ++ l))) (take-take (z .linears) m rs k))
 
     -- too few are there
     module _ (k : length ds < z .linears) (p : m ≤ length ds) where
       abbrev Short : ℕ
-      Short = orElse (placesFault (rowsOnly z) (stores old [] ands imuls bmuls zeros [] [])) 3
+      Short = orElse (placesFault (rowsOnly z) (stores old new ands imuls bmuls zeros [] [])) 3
 
       few-places : placesFault z Few ≡ Short
-      few-places = rows-first z old ands imuls bmuls zeros (take m ds) (take m rs)
-          ∙ ap (orElse (placesFault (rowsOnly z) (stores old [] ands imuls bmuls zeros [] []))) (short-fault (z .wires) old (z .linears) (take m ds) (take m rs) (omega (arith, k, p, length-take-le m ds p)))
+      few-places = rows-first z old new ands imuls bmuls zeros (take m ds) (take m rs)
+          ∙ ap (orElse (placesFault (rowsOnly z) (stores old new ands imuls bmuls zeros [] []))) (short-fault (z .wires) old new (z .linears) (take m ds) (take m rs) (omega (arith, k, p, length-take-le m ds p)))
 
       all-places : placesFault z All ≡ Short
-      all-places = rows-first z old ands imuls bmuls zeros ds rs
-          ∙ ap (orElse (placesFault (rowsOnly z) (stores old [] ands imuls bmuls zeros [] []))) (short-fault (z .wires) old (z .linears) ds rs k)
+      all-places = rows-first z old new ands imuls bmuls zeros ds rs
+          ∙ ap (orElse (placesFault (rowsOnly z) (stores old new ands imuls bmuls zeros [] []))) (short-fault (z .wires) old new (z .linears) ds rs k)
 
       short-not : Short ≡ 0 → ⊥
-      short-not = else-not (placesFault (rowsOnly z) (stores old [] ands imuls bmuls zeros [] [])) 3 (λ x. omega (arith, x))
+      short-not = else-not (placesFault (rowsOnly z) (stores old new ands imuls bmuls zeros [] [])) 3 (λ x. omega (arith, x))
 
       first-is : (a b : ℕ) → a ≡ Short → orElse a b ≡ Short
       first-is a b e = rw e (kept-first Short b short-not)
@@ -205,13 +214,13 @@ module _ (z : Sizes) (s s′ : Stores) (flags ws ws′ : List ℕ) where
   fills-refused f b r (F.sized e n q k) = absurd (b e)
   fills-refused f b r (F.filled e n q k y) = absurd (b e)
 
-module _ (z : Sizes) (old ands imuls bmuls zeros ds rs : List ℕ) (len m n fault : ℕ) (e : m ≡ held len) (d : n ≡ looked len z) (a : length ds ≡ len) (b : length rs ≡ len)
-    (f : fault ≡ pairsFault (z .wires) old [] (take n ds) (take n rs)) where
+module _ (z : Sizes) (old new ands imuls bmuls zeros ds rs : List ℕ) (len m n fault : ℕ) (e : m ≡ held len) (d : n ≡ looked len z) (a : length ds ≡ len) (b : length rs ≡ len)
+    (f : fault ≡ pairsFault (z .wires) old new (take n ds) (take n rs)) where
   abbrev There : Stores
-  There = stores old [] ands imuls bmuls zeros ds rs
+  There = stores old new ands imuls bmuls zeros ds rs
 
   abbrev First : Stores
-  First = stores old [] ands imuls bmuls zeros (take m ds) (take m rs)
+  First = stores old new ands imuls bmuls zeros (take m ds) (take m rs)
 
   in-ds : m ≤ length ds
   in-ds = omega (arith, a, held-in len m e .0)
@@ -219,60 +228,52 @@ module _ (z : Sizes) (old ands imuls bmuls zeros ds rs : List ℕ) (len m n faul
   in-rs : m ≤ length rs
   in-rs = omega (arith, b, held-in len m e .0)
 
-  d′ : n ≡ looked (length ds) z
-  d′ = d ∙ ap (λ (i : ℕ). looked i z) (sym a)
-
-  short-fault-of : (k : len < z .linears) → (faultOf MAX_TERMS z First ≡ faultOf MAX_TERMS z There) × (faultOf MAX_TERMS z First ≡ 0 → ⊥)
-  unfolding faultOf
-  short-fault-of k =
+  -- where too few are there, the first fault is the same, and is one
+  pub short-memory : (limit : ℕ) → len < z .linears → Same (memoryFault limit z First) (memoryFault limit z There)
+  short-memory limit k =
       let k′ : length ds < z .linears = omega (arith, a, k) in
-      let x = few-memory z old ands imuls bmuls zeros ds rs m k′ in-ds 8192 in
-      let y = all-memory z old ands imuls bmuls zeros ds rs m k′ in-ds 8192 in
-      let b = short-not z old ands imuls bmuls zeros ds rs m k′ in-ds in
-      let u : orElse (memoryFault 8192 z First) (definitionFault (systemOf z First)) ≡ memoryFault 8192 z First = kept-first (memoryFault 8192 z First) (definitionFault (systemOf z First)) (λ o. b (sym x ∙ o)) in
-      let v : orElse (memoryFault 8192 z There) (definitionFault (systemOf z There)) ≡ memoryFault 8192 z There = kept-first (memoryFault 8192 z There) (definitionFault (systemOf z There)) (λ o. b (sym y ∙ o)) in
-      (u ∙ x ∙ sym y ∙ sym v, λ o. b (sym x ∙ sym u ∙ o))
+      let x = few-memory z old new ands imuls bmuls zeros ds rs m k′ in-ds limit in
+      (x ∙ sym (all-memory z old new ands imuls bmuls zeros ds rs m k′ in-ds limit), λ o. short-not z old new ands imuls bmuls zeros ds rs m k′ in-ds (sym x ∙ o))
 
-  same-fault-of : (k : z .linears ≤ m) → faultOf MAX_TERMS z First ≡ faultOf MAX_TERMS z There
-  unfolding faultOf
-  same-fault-of k = ap₂ {C = ℕ} orElse (same-memory z old ands imuls bmuls zeros ds rs m k in-ds in-rs 8192) (ap definitionFault (same-system z old ands imuls bmuls zeros ds rs m k in-ds in-rs))
+  -- where all that count are held, the system and its first fault are the same
+  pub first-memory : (limit : ℕ) → z .linears ≤ m → memoryFault limit z First ≡ memoryFault limit z There
+  first-memory limit k = same-memory z old new ands imuls bmuls zeros ds rs m k in-ds in-rs limit
 
-  past-fault-of : (n ≡ 0 → ⊥) → faultOf MAX_TERMS z There ≡ pastFault z old ands imuls bmuls zeros fault
-  unfolding faultOf
-  past-fault-of h =
-      let x = past-memory z old ands imuls bmuls zeros ds rs n fault d′ h (b ∙ sym a) f 8192 in
-      kept-first (memoryFault 8192 z There) (definitionFault (systemOf z There)) (λ o. past-not z old ands imuls bmuls zeros ds rs fault (sym x ∙ o)) ∙ x
+  pub first-system : z .linears ≤ m → systemOf z First ≡ systemOf z There
+  first-system k = same-system z old new ands imuls bmuls zeros ds rs m k in-ds in-rs
+
+  -- where too many are there, nothing comes before their fault
+  pub over-memory : (limit c : ℕ) → (n ≡ 0 → ⊥) → orElse (memoryFault limit z There) c ≡ pastFault z old new ands imuls bmuls zeros fault
+  over-memory limit c h =
+      let x = past-memory z old new ands imuls bmuls zeros ds rs n fault (d ∙ ap (λ (i : ℕ). looked i z) (sym a)) h (b ∙ sym a) f limit in
+      kept-first (memoryFault limit z There) c (λ o. past-not z old new ands imuls bmuls zeros ds rs fault (sym x ∙ o)) ∙ x
+
+  pub over-not : pastFault z old new ands imuls bmuls zeros fault ≡ 0 → ⊥
+  over-not = past-not z old new ands imuls bmuls zeros ds rs fault
 
   -- THE THEOREM for filling back.
   pub fills-all : (flags ws ws′ : List ℕ) (r : ℕ) → FillsFirst n fault z First flags ws ws′ r → FillsIs z There flags ws ws′ r
-  fills-all flags ws ws′ r (filledPast h k s) = F.refused (k ∙ sym (past-fault-of h)) (λ o. past-not z old ands imuls bmuls zeros ds rs fault (sym k ∙ o)) s
+  unfolding faultOf
+  fills-all flags ws ws′ r (filledPast h k s) = F.refused (k ∙ sym (over-memory 8192 (definitionFault (systemOf z There)) h)) (λ o. over-not (sym k ∙ o)) s
   fills-all flags ws ws′ r (filledFirst h y) =
-      ⊎-elim (λ lack. fills-refused z First There flags ws ws′ (short-fault-of lack .0) (short-fault-of lack .1) r y)
-      (λ k. fills-agree z First There flags ws ws′ (same-fault-of k) (same-system z old ands imuls bmuls zeros ds rs m k in-ds in-rs) r y) (held-or-short len m n z e d h)
+      ⊎-elim
+      (λ lack. let x = same-after (memoryFault 8192 z First) (memoryFault 8192 z There) (definitionFault (systemOf z First)) (definitionFault (systemOf z There)) (short-memory 8192 lack) in
+      fills-refused z First There flags ws ws′ (x .0) (x .1) r y)
+      (λ k. fills-agree z First There flags ws ws′ (ap₂ {C = ℕ} orElse (first-memory 8192 k) (ap definitionFault (first-system k))) (first-system k) r y) (held-or-short len m n z e d h)
 
   -- ---- fusing
-  short-decision : (slots : ℕ) (k : len < z .linears) → (decisionFault slots z First ≡ decisionFault slots z There) × (decisionFault slots z First ≡ 0 → ⊥)
+  short-decision : (slots : ℕ) → len < z .linears → Same (decisionFault slots z First) (decisionFault slots z There)
   unfolding decisionFault
   short-decision slots k =
-      let k′ : length ds < z .linears = omega (arith, a, k) in
-      let x = few-memory z old ands imuls bmuls zeros ds rs m k′ in-ds 8192 in
-      let y = all-memory z old ands imuls bmuls zeros ds rs m k′ in-ds 8192 in
-      let b = short-not z old ands imuls bmuls zeros ds rs m k′ in-ds in
-      let u : orElse (memoryFault 8192 z First) (orElse (slotsFault slots) (definitionFault (systemOf z First))) ≡ memoryFault 8192 z First = kept-first (memoryFault 8192 z First) (orElse (slotsFault slots) (definitionFault (systemOf z First))) (λ o. b (sym x ∙ o)) in
-      let v : orElse (memoryFault 8192 z There) (orElse (slotsFault slots) (definitionFault (systemOf z There))) ≡ memoryFault 8192 z There = kept-first (memoryFault 8192 z There) (orElse (slotsFault slots) (definitionFault (systemOf z There))) (λ o. b (sym y ∙ o)) in
-      (u ∙ x ∙ sym y ∙ sym v, λ o. b (sym x ∙ sym u ∙ o))
+      same-after (memoryFault 8192 z First) (memoryFault 8192 z There) (orElse (slotsFault slots) (definitionFault (systemOf z First))) (orElse (slotsFault slots) (definitionFault (systemOf z There))) (short-memory 8192 k)
 
-  same-decision : (slots : ℕ) (k : z .linears ≤ m) → decisionFault slots z First ≡ decisionFault slots z There
+  same-decision : (slots : ℕ) → z .linears ≤ m → decisionFault slots z First ≡ decisionFault slots z There
   unfolding decisionFault
-  same-decision slots k =
-      ap₂ {C = ℕ} orElse (same-memory z old ands imuls bmuls zeros ds rs m k in-ds in-rs 8192)
-      (ap (λ (p : System). orElse (slotsFault slots) (definitionFault p)) (same-system z old ands imuls bmuls zeros ds rs m k in-ds in-rs))
+  same-decision slots k = ap₂ {C = ℕ} orElse (first-memory 8192 k) (ap (λ (p : System). orElse (slotsFault slots) (definitionFault p)) (first-system k))
 
-  past-decision : (slots : ℕ) → (n ≡ 0 → ⊥) → decisionFault slots z There ≡ pastFault z old ands imuls bmuls zeros fault
+  past-decision : (slots : ℕ) → (n ≡ 0 → ⊥) → decisionFault slots z There ≡ pastFault z old new ands imuls bmuls zeros fault
   unfolding decisionFault
-  past-decision slots h =
-      let x = past-memory z old ands imuls bmuls zeros ds rs n fault d′ h (b ∙ sym a) f 8192 in
-      kept-first (memoryFault 8192 z There) (orElse (slotsFault slots) (definitionFault (systemOf z There))) (λ o. past-not z old ands imuls bmuls zeros ds rs fault (sym x ∙ o)) ∙ x
+  past-decision slots h = over-memory 8192 (orElse (slotsFault slots) (definitionFault (systemOf z There))) h
 
 -- ---- what is left of the first numbers, and of all
 sets-own : (m : ℕ) (l : List ℕ) → m ≤ length l → sets l 0 (take m l) ≡ l
@@ -280,7 +281,7 @@ sets-own m l h =
     let k = length-take-le m l h in
     sets-front (take m l) l (omega (arith, k, h)) ∙ ap (λ (i : ℕ). take m l ++ drop i l) k ∙ take-append-drop m l
 
-sets-part : (m : ℕ) (l front : List ℕ) → m ≤ length l → length front ≤ m → sets l 0 (sets (take m l) 0 front) ≡ sets l 0 front
+pub sets-part : (m : ℕ) (l front : List ℕ) → m ≤ length l → length front ≤ m → sets l 0 (sets (take m l) 0 front) ≡ sets l 0 front
 sets-part m l front h k =
     let t = length-take-le m l h in
     let i : ℕ = length front in
@@ -351,10 +352,10 @@ module _ (slots : ℕ) (z : Sizes) (old new ands imuls bmuls zeros ds rs flags :
   up x = lent (x .old) (x .new) (x .ands) (x .imuls) (x .bmuls) (x .zeros) (sets ds 0 (x .dsts)) (sets rs 0 (x .rhss)) (x .flags)
 
   long-ds : m ≤ length ds
-  long-ds = in-ds z old ands imuls bmuls zeros ds rs len m n fault e d a b f
+  long-ds = in-ds z old [] ands imuls bmuls zeros ds rs len m n fault e d a b f
 
   long-rs : m ≤ length rs
-  long-rs = in-rs z old ands imuls bmuls zeros ds rs len m n fault e d a b f
+  long-rs = in-rs z old [] ands imuls bmuls zeros ds rs len m n fault e d a b f
 
   kept : (x : Lent) → x ≡ few → up x ≡ all
   kept x k = ap up k ∙ ap₂ {C = Lent} (λ (u v : List ℕ). lent old new ands imuls bmuls zeros u v flags) (sets-own m ds long-ds) (sets-own m rs long-rs)
@@ -391,7 +392,7 @@ module _ (slots : ℕ) (z : Sizes) (old new ands imuls bmuls zeros ds rs flags :
 
   module _ (k : z .linears ≤ m) where
     sys : fused z few ≡ fused z all
-    sys = same-system z old ands imuls bmuls zeros ds rs m k long-ds long-rs
+    sys = same-system z old [] ands imuls bmuls zeros ds rs m k long-ds long-rs
 
     same-kept : isKept z few ≡ isKept z all
     unfolding isKept
@@ -413,7 +414,7 @@ module _ (slots : ℕ) (z : Sizes) (old new ands imuls bmuls zeros ds rs flags :
 
       patches-all : (st : ℕ → Decision) (l′ : Lent) → Patches slots z few l′ st → Patches slots z all (up l′) st
       patches-all st l′ y =
-          let g′ : decisionFault slots z (input all) ≡ 0 = sym (same-decision z old ands imuls bmuls zeros ds rs len m n fault e d a b f slots k) ∙ g in
+          let g′ : decisionFault slots z (input all) ≡ 0 = sym (same-decision z old [] ands imuls bmuls zeros ds rs len m n fault e d a b f slots k) ∙ g in
           let nc′ : NoCircle (fused z all) = subst NoCircle sys nc in
           let so : Solves slots (fused z all) st = subst (λ (p : System). Solves slots p st) sys (y .solves) in
           let set : commitSet (fused z few) st ≡ commitSet (fused z all) st = ap (λ (p : System). commitSet p st) sys in
@@ -429,51 +430,51 @@ module _ (slots : ℕ) (z : Sizes) (old new ands imuls bmuls zeros ds rs flags :
           }
 
   agree : (k : z .linears ≤ m) (l′ : Lent) (t : Told) → Fuses slots z few l′ t → Fuses slots z all (up l′) t
-  agree k l′ t (refused r h q) = refused (r ∙ same-decision z old ands imuls bmuls zeros ds rs len m n fault e d a b f slots k) h (kept l′ q)
+  agree k l′ t (refused r h q) = refused (r ∙ same-decision z old [] ands imuls bmuls zeros ds rs len m n fault e d a b f slots k) h (kept l′ q)
   agree k l′ t (circular g w r q) =
-      circular (sym (same-decision z old ands imuls bmuls zeros ds rs len m n fault e d a b f slots k) ∙ g) w (subst (λ (p : System). Reaches p w w) (sys k) r) (kept l′ q)
+      circular (sym (same-decision z old [] ands imuls bmuls zeros ds rs len m n fault e d a b f slots k) ∙ g) w (subst (λ (p : System). Reaches p w w) (sys k) r) (kept l′ q)
   agree k l′ t (short g nc st so r q) =
-      short (sym (same-decision z old ands imuls bmuls zeros ds rs len m n fault e d a b f slots k) ∙ g) (subst NoCircle (sys k) nc) st (subst (λ (p : System). Solves slots p st) (sys k) so)
+      short (sym (same-decision z old [] ands imuls bmuls zeros ds rs len m n fault e d a b f slots k) ∙ g) (subst NoCircle (sys k) nc) st (subst (λ (p : System). Solves slots p st) (sys k) so)
       (ap (λ (p : System). hasRoom (fused z all) (commitSet p st) all) (sym (sys k)) ∙ sym (same-room k (commitSet (fused z few) st)) ∙ r) (kept l′ q)
   agree k l′ t (patches g nc st y) =
       subst (λ (p : System). Fuses slots z all (up l′) (toldFused (Done (countsOf p (commitSet p st))))) (sym (sys k))
-      (patches (sym (same-decision z old ands imuls bmuls zeros ds rs len m n fault e d a b f slots k) ∙ g) (subst NoCircle (sys k) nc) st (patches-all k g nc st l′ y))
+      (patches (sym (same-decision z old [] ands imuls bmuls zeros ds rs len m n fault e d a b f slots k) ∙ g) (subst NoCircle (sys k) nc) st (patches-all k g nc st l′ y))
 
   lacking : (k : len < z .linears) (l′ : Lent) (t : Told) → Fuses slots z few l′ t → Fuses slots z all (up l′) t
-  lacking k l′ t (refused r h q) = refused (r ∙ short-decision z old ands imuls bmuls zeros ds rs len m n fault e d a b f slots k .0) h (kept l′ q)
-  lacking k l′ t (circular g w r q) = absurd (short-decision z old ands imuls bmuls zeros ds rs len m n fault e d a b f slots k .1 g)
-  lacking k l′ t (short g nc st so r q) = absurd (short-decision z old ands imuls bmuls zeros ds rs len m n fault e d a b f slots k .1 g)
-  lacking k l′ t (patches g nc st y) = absurd (short-decision z old ands imuls bmuls zeros ds rs len m n fault e d a b f slots k .1 g)
+  lacking k l′ t (refused r h q) = refused (r ∙ short-decision z old [] ands imuls bmuls zeros ds rs len m n fault e d a b f slots k .0) h (kept l′ q)
+  lacking k l′ t (circular g w r q) = absurd (short-decision z old [] ands imuls bmuls zeros ds rs len m n fault e d a b f slots k .1 g)
+  lacking k l′ t (short g nc st so r q) = absurd (short-decision z old [] ands imuls bmuls zeros ds rs len m n fault e d a b f slots k .1 g)
+  lacking k l′ t (patches g nc st y) = absurd (short-decision z old [] ands imuls bmuls zeros ds rs len m n fault e d a b f slots k .1 g)
 
   -- THE THEOREM for fusing.
   pub fuses-all : (l′ : Lent) (t : Told) → FusesFirst n fault slots z few l′ t → Fuses slots z all (up l′) t
   fuses-all l′ t (fusedPast h r q) =
-      refused (r ∙ sym (past-decision z old ands imuls bmuls zeros ds rs len m n fault e d a b f slots h)) (λ o. past-not z old ands imuls bmuls zeros ds rs fault (sym r ∙ o)) (kept l′ q)
+      refused (r ∙ sym (past-decision z old [] ands imuls bmuls zeros ds rs len m n fault e d a b f slots h)) (λ o. past-not z old [] ands imuls bmuls zeros ds rs fault (sym r ∙ o)) (kept l′ q)
   fuses-all l′ t (fusedFirst h y) = ⊎-elim (λ lack. lacking lack l′ t y) (λ k. agree k l′ t y) (held-or-short len m n z e d h)
 
 -- ---- the first records that are looked at, and one more
-pub pairs-more : (w : ℕ) (old ds rs : List ℕ) (k : ℕ) → k < length ds → k < length rs
-    → orElse (pairsFault w old [] (take k ds) (take k rs)) (pairsFault w old [] (getD ds k 0 ∷ []) (getD rs k 0 ∷ [])) ≡ pairsFault w old [] (take (suc k) ds) (take (suc k) rs)
-pairs-more w old [] rs k p q = absurd (omega (arith, p))
-pairs-more w old (d ∷ ds) [] k p q = absurd (omega (arith, q))
-pairs-more w old (d ∷ ds) (r ∷ rs) zero p q = refl
-pairs-more w old (d ∷ ds) (r ∷ rs) (suc k) p q =
-    else-assoc (orElse (unless (ltb d w) 5) (operandFault w old [] r)) (pairsFault w old [] (take k ds) (take k rs)) (pairsFault w old [] (getD ds k 0 ∷ []) (getD rs k 0 ∷ []))
-    ∙ ap (orElse (orElse (unless (ltb d w) 5) (operandFault w old [] r))) (pairs-more w old ds rs k (omega (arith, p)) (omega (arith, q)))
+pub pairs-more : (w : ℕ) (old new ds rs : List ℕ) (k : ℕ) → k < length ds → k < length rs
+    → orElse (pairsFault w old new (take k ds) (take k rs)) (pairsFault w old new (getD ds k 0 ∷ []) (getD rs k 0 ∷ [])) ≡ pairsFault w old new (take (suc k) ds) (take (suc k) rs)
+pairs-more w old new [] rs k p q = absurd (omega (arith, p))
+pairs-more w old new (d ∷ ds) [] k p q = absurd (omega (arith, q))
+pairs-more w old new (d ∷ ds) (r ∷ rs) zero p q = refl
+pairs-more w old new (d ∷ ds) (r ∷ rs) (suc k) p q =
+    else-assoc (orElse (unless (ltb d w) 5) (operandFault w old new r)) (pairsFault w old new (take k ds) (take k rs)) (pairsFault w old new (getD ds k 0 ∷ []) (getD rs k 0 ∷ []))
+    ∙ ap (orElse (orElse (unless (ltb d w) 5) (operandFault w old new r))) (pairs-more w old new ds rs k (omega (arith, p)) (omega (arith, q)))
 
 -- a fault is a byte
-module _ (w : ℕ) (old : List ℕ) where
+module _ (w : ℕ) (old new : List ℕ) where
   abbrev Byte : ℕ → Type 0
   Byte n = n < 256
 
   byte : (n : ℕ) → n < 6 → Byte n
   byte n h = omega (arith, h)
 
-  operand-byte : (h : ℕ) → Byte (operandFault w old [] h)
+  operand-byte : (h : ℕ) → Byte (operandFault w old new h)
   unfolding operandFault termFault
   operand-byte h =
-      else-only Byte (unless (within old [] (operandAt h)) 3) _ (unless-only Byte (within old [] (operandAt h)) 3 (byte 0 (omega arith)) (byte 3 (omega arith)))
-      (terms (operandOf old [] h))
+      else-only Byte (unless (within old new (operandAt h)) 3) _ (unless-only Byte (within old new (operandAt h)) 3 (byte 0 (omega arith)) (byte 3 (omega arith)))
+      (terms (operandOf old new h))
     where
       term : (t : Term) → Byte (termFault w t)
       term t =
@@ -485,11 +486,11 @@ module _ (w : ℕ) (old : List ℕ) where
       terms [] = byte 0 (omega arith)
       terms (t ∷ ts) = else-only Byte (termFault w t) _ (term t) (terms ts)
 
-  pub pairs-byte : (ds rs : List ℕ) → pairsFault w old [] ds rs < 2 ^ 8
+  pub pairs-byte : (ds rs : List ℕ) → pairsFault w old new ds rs < 2 ^ 8
   pairs-byte [] rs = byte 0 (omega arith)
   pairs-byte (d ∷ ds) [] = byte 0 (omega arith)
   pairs-byte (d ∷ ds) (h ∷ rs) =
-      else-only Byte (orElse (unless (ltb d w) 5) (operandFault w old [] h)) _
+      else-only Byte (orElse (unless (ltb d w) 5) (operandFault w old new h)) _
       (else-only Byte (unless (ltb d w) 5) _ (unless-only Byte (ltb d w) 5 (byte 0 (omega arith)) (byte 5 (omega arith))) (operand-byte h)) (pairs-byte ds rs)
 
 abbrev dstOf : D.Definition → ℕ
@@ -498,24 +499,24 @@ dstOf d = d .dst
 abbrev rhsOf : D.Definition → ℕ
 rhsOf d = d .rhs
 
-pub records-more : (w : ℕ) (old : List ℕ) (ys : List D.Definition) (k k′ r : ℕ) → k < length ys → k′ ≡ k + 1
-    → r ≡ orElse (pairsFault w old [] (take k (dstsOf ys)) (take k (rhssOf ys))) (pairsFault w old [] (getD ys k none .dst ∷ []) (getD ys k none .rhs ∷ []))
-    → r ≡ pairsFault w old [] (take k′ (dstsOf ys)) (take k′ (rhssOf ys))
-records-more w old ys k k′ r h n e =
-    let here : orElse (pairsFault w old [] (take k (dstsOf ys)) (take k (rhssOf ys))) (pairsFault w old [] (getD (dstsOf ys) k 0 ∷ []) (getD (rhssOf ys) k 0 ∷ []))
-    ≡ pairsFault w old [] (take (suc k) (dstsOf ys)) (take (suc k) (rhssOf ys)) =
-    pairs-more w old (dstsOf ys) (rhssOf ys) k (omega (arith, h, length-map ys dstOf)) (omega (arith, h, length-map ys rhsOf)) in
+pub records-more : (w : ℕ) (old new : List ℕ) (ys : List D.Definition) (k k′ r : ℕ) → k < length ys → k′ ≡ k + 1
+    → r ≡ orElse (pairsFault w old new (take k (dstsOf ys)) (take k (rhssOf ys))) (pairsFault w old new (getD ys k none .dst ∷ []) (getD ys k none .rhs ∷ []))
+    → r ≡ pairsFault w old new (take k′ (dstsOf ys)) (take k′ (rhssOf ys))
+records-more w old new ys k k′ r h n e =
+    let here : orElse (pairsFault w old new (take k (dstsOf ys)) (take k (rhssOf ys))) (pairsFault w old new (getD (dstsOf ys) k 0 ∷ []) (getD (rhssOf ys) k 0 ∷ []))
+    ≡ pairsFault w old new (take (suc k) (dstsOf ys)) (take (suc k) (rhssOf ys)) =
+    pairs-more w old new (dstsOf ys) (rhssOf ys) k (omega (arith, h, length-map ys dstOf)) (omega (arith, h, length-map ys rhsOf)) in
     e
-    ∙ ap₂ {C = ℕ} (λ (d x : ℕ). orElse (pairsFault w old [] (take k (dstsOf ys)) (take k (rhssOf ys))) (pairsFault w old [] (d ∷ []) (x ∷ []))) (sym (List·getD-map dstOf ys k none)) (sym (List·getD-map rhsOf ys k none))
+    ∙ ap₂ {C = ℕ} (λ (d x : ℕ). orElse (pairsFault w old new (take k (dstsOf ys)) (take k (rhssOf ys))) (pairsFault w old new (d ∷ []) (x ∷ []))) (sym (List·getD-map dstOf ys k none)) (sym (List·getD-map rhsOf ys k none))
     ∙ here
-    ∙ ap (λ (i : ℕ). pairsFault w old [] (take i (dstsOf ys)) (take i (rhssOf ys))) (sym (add-one k) ∙ sym n)
+    ∙ ap (λ (i : ℕ). pairsFault w old new (take i (dstsOf ys)) (take i (rhssOf ys))) (sym (add-one k) ∙ sym n)
 
 -- ---- over records
 module _ (z : Sizes) (old ands imuls bmuls zeros : List ℕ) (ys : List D.Definition) (us vs : List ℕ) (m n fault : ℕ) (e : m ≡ held (length ys)) (d : n ≡ looked (length ys) z)
     (f : fault ≡ pairsFault (z .wires) old [] (take n (dstsOf ys)) (take n (rhssOf ys))) (p : us ≡ take m (dstsOf ys)) (q : vs ≡ take m (rhssOf ys)) where
   pub fills-records : (flags ws ws′ : List ℕ) (r : ℕ) → FillsFirst n fault z (stores old [] ands imuls bmuls zeros us vs) flags ws ws′ r → FillsIs z (storesBy old [] ands imuls bmuls zeros ys) flags ws ws′ r
   fills-records flags ws ws′ r y =
-      fills-all z old ands imuls bmuls zeros (dstsOf ys) (rhssOf ys) (length ys) m n fault e d (length-map ys dstOf) (length-map ys rhsOf) f flags ws ws′ r
+      fills-all z old [] ands imuls bmuls zeros (dstsOf ys) (rhssOf ys) (length ys) m n fault e d (length-map ys dstOf) (length-map ys rhsOf) f flags ws ws′ r
       (subst (λ (l : List ℕ). FillsFirst n fault z (stores old [] ands imuls bmuls zeros l (take m (rhssOf ys))) flags ws ws′ r) p
       (subst (λ (l : List ℕ). FillsFirst n fault z (stores old [] ands imuls bmuls zeros us l) flags ws ws′ r) q y))
 

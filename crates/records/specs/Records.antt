@@ -8,7 +8,8 @@
 --   held               how many records' numbers the arrays take: all, or so many as there may be definitions
 --   looked             how many records are looked at where they stand: so many as count, where that is more than the arrays take
 --   pastFault          the refusal of a system that has too many definitions, all of them there: 3, 4 and 5 come before 6
---   FillsFirst, FusesFirst   the answer where n records were looked at, with a fault or none: by the first numbers, or a refusal
+--   FillsFirst, FusesFirst, WritesFirst, EvaluatesFirst   the answer where n records were looked at, with a fault or none: by the first numbers,
+--                      or a refusal
 --
 -- Assumes nothing.
 use mathlib.Core.Path.{_≡_}
@@ -27,6 +28,12 @@ use Rattle.lower.specs.Faults.{orElse, placesFault, FULL}
 use Rattle.fusion.specs.Left.{Lent, lent}
 use Rattle.fusion.specs.Answer.{Fuses}
 use Rattle.fill_back.specs.Filling.{FillsIs}
+use Rattle.house_write.specs.Write.{WriteIs}
+use Rattle.house_write.specs.declared.Written.{Written}
+use Rattle.house_write.specs.declared.Written.the-variants as W
+use Rattle.evaluate.specs.Evaluation.{EvaluateIs}
+use Rattle.evaluate.specs.declared.Evaluated.{Evaluated}
+use Rattle.evaluate.specs.declared.Evaluated.the-variants as E
 use Rattle.records.specs.declared.Definition.{Definition}
 
 abbrev pub dstsOf : List Definition → List ℕ
@@ -65,13 +72,26 @@ abbrev pub rowsOnly : Sizes → Sizes
 rowsOnly z = record { wires = z .wires; ands = z .ands; imuls = z .imuls; bmuls = z .bmuls; zeros = z .zeros; linears = 0 }
 
 -- "lists in tag order": the rows' fault before the definitions'
-unfoldable pub pastFault : Sizes → List ℕ → List ℕ → List ℕ → List ℕ → List ℕ → ℕ → ℕ
-pastFault z old ands imuls bmuls zeros fault = orElse (placesFault (rowsOnly z) (stores old [] ands imuls bmuls zeros [] [])) (orElse fault FULL)
+unfoldable pub pastFault : Sizes → List ℕ → List ℕ → List ℕ → List ℕ → List ℕ → List ℕ → ℕ → ℕ
+pastFault z old new ands imuls bmuls zeros fault = orElse (placesFault (rowsOnly z) (stores old new ands imuls bmuls zeros [] [])) (orElse fault FULL)
+
+-- the same of a system's stores
+abbrev pub pastOf : Sizes → Stores → ℕ → ℕ
+pastOf z s fault = pastFault z (s .old) (s .new) (s .ands) (s .imuls) (s .bmuls) (s .zeros) fault
 
 pub data FillsFirst (n fault : ℕ) (z : Sizes) (s : Stores) (flags ws ws′ : List ℕ) : ℕ → Type 0 where
   filledFirst : {r : ℕ} → n ≡ 0 → FillsIs z s flags ws ws′ r → FillsFirst n fault z s flags ws ws′ r
-  filledPast : {r : ℕ} → (n ≡ 0 → ⊥) → r ≡ pastFault z (s .old) (s .ands) (s .imuls) (s .bmuls) (s .zeros) fault → ws′ ≡ ws → FillsFirst n fault z s flags ws ws′ r
+  filledPast : {r : ℕ} → (n ≡ 0 → ⊥) → r ≡ pastOf z s fault → ws′ ≡ ws → FillsFirst n fault z s flags ws ws′ r
 
 pub data FusesFirst (n fault slots : ℕ) (z : Sizes) (l l′ : Lent) : Told → Type 0 where
   fusedFirst : {t : Told} → n ≡ 0 → Fuses slots z l l′ t → FusesFirst n fault slots z l l′ t
-  fusedPast : {r : ℕ} → (n ≡ 0 → ⊥) → r ≡ pastFault z (l .old) (l .ands) (l .imuls) (l .bmuls) (l .zeros) fault → l′ ≡ l → FusesFirst n fault slots z l l′ (T.refused r)
+  fusedPast : {r : ℕ} → (n ≡ 0 → ⊥) → r ≡ pastFault z (l .old) [] (l .ands) (l .imuls) (l .bmuls) (l .zeros) fault → l′ ≡ l → FusesFirst n fault slots z l l′ (T.refused r)
+
+-- out is what is lent before and out′ after
+pub data WritesFirst (n fault : ℕ) (z : Sizes) (s : Stores) (out out′ : List ℕ) : Written → Type 0 where
+  writtenFirst : {r : Written} → n ≡ 0 → WriteIs z s out r out′ → WritesFirst n fault z s out out′ r
+  writtenPast : {r : ℕ} → (n ≡ 0 → ⊥) → r ≡ pastOf z s fault → out′ ≡ out → WritesFirst n fault z s out out′ (W.Refused r)
+
+pub data EvaluatesFirst (n fault : ℕ) (z : Sizes) (s : Stores) (ws out out′ : List ℕ) : Evaluated → Type 0 where
+  evaluatedFirst : {r : Evaluated} → n ≡ 0 → EvaluateIs z s ws out r out′ → EvaluatesFirst n fault z s ws out out′ r
+  evaluatedPast : {r : ℕ} → (n ≡ 0 → ⊥) → r ≡ pastOf z s fault → out′ ≡ out → EvaluatesFirst n fault z s ws out out′ (E.Refused r)

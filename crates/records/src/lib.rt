@@ -23,7 +23,7 @@ pub struct Definition {
 }
 
 // The numbers of the first m records, each kind to a slice of its own.
-pub fn unload(defs: &[Definition], m: usize, dsts: &mut [u16], rhss: &mut [u64])
+fn unload(defs: &[Definition], m: usize, dsts: &mut [u16], rhss: &mut [u64])
     requires { ⌜ (m ≤ length (now defs)) × (m ≤ length (now dsts)) × (m ≤ length (now rhss)) ⌝ }
     ensures { λ _. ⌜ (now (dsts .exit) ≡ unloaded (now (dsts .entry)) (dstsOf (now (defs .entry))) m) × (now (rhss .exit) ≡ unloaded (now (rhss .entry)) (rhssOf (now (defs .entry))) m) ⌝ }
 {
@@ -37,7 +37,7 @@ pub fn unload(defs: &[Definition], m: usize, dsts: &mut [u16], rhss: &mut [u64])
 }
 
 // The first n records, made of their numbers.
-pub fn reload(defs: &mut [Definition], dsts: &[u16], rhss: &[u64], n: usize)
+fn reload(defs: &mut [Definition], dsts: &[u16], rhss: &[u64], n: usize)
     requires { ⌜ (n ≤ length (now defs)) × (n ≤ length (now dsts)) × (n ≤ length (now rhss)) ⌝ }
     ensures { λ _. ⌜ now (defs .exit) ≡ reloaded (now (defs .entry)) (now (dsts .entry)) (now (rhss .entry)) n ⌝ }
 {
@@ -84,9 +84,17 @@ fn looked(len: usize, z: Sizes) -> usize
     n
 }
 
+// No terms: the new store of a system that has none.
+fn no_terms<'a>(old: &'a [u64]) -> &'a [u64]
+    ensures { λ r. ⌜ now r ≡ [] ⌝ }
+{
+    &old[0..0]
+}
+
 // What `check` finds of 3, 4 and 5.
-fn placed(
-    old: &[u64],
+fn placed<'a>(
+    old: &'a [u64],
+    new: &'a [u64],
     ands: &[u64],
     imuls: &[u64],
     bmuls: &[u64],
@@ -95,11 +103,11 @@ fn placed(
     rhss: &[u64],
     z: Sizes,
 ) -> u8
-    ensures { λ r. ⌜ r ≡ placesFault z (stores (now (old .entry)) [] (now (ands .entry)) (now (imuls .entry)) (now (bmuls .entry)) (now (zeros .entry)) (now (dsts .entry)) (now (rhss .entry))) ⌝ }
+    ensures { λ r. ⌜ r ≡ placesFault z (stores (now (old .entry)) (now (new .entry)) (now (ands .entry)) (now (imuls .entry)) (now (bmuls .entry)) (now (zeros .entry)) (now (dsts .entry)) (now (rhss .entry))) ⌝ }
 {
     let fault = lower::check(
         old,
-        &old[0..0],
+        new,
         ands,
         imuls,
         bmuls,
@@ -116,8 +124,8 @@ fn placed(
 }
 
 // The fault of one definition.
-fn pair_fault(old: &[u64], dst: u16, rhs: u64, wires: usize) -> u8
-    ensures { λ r. ⌜ r ≡ pairsFault wires (now (old .entry)) [] (dst ∷ []) (rhs ∷ []) ⌝ }
+fn pair_fault<'a>(old: &'a [u64], new: &'a [u64], dst: u16, rhs: u64, wires: usize) -> u8
+    ensures { λ r. ⌜ r ≡ pairsFault wires (now (old .entry)) (now (new .entry)) (dst ∷ []) (rhs ∷ []) ⌝ }
 {
     let dsts = [dst];
     let rhss = [rhs];
@@ -130,37 +138,44 @@ fn pair_fault(old: &[u64], dst: u16, rhs: u64, wires: usize) -> u8
         zeros: 0,
         linears: 1,
     };
-    placed(old, none, none, none, none, &dsts, &rhss, z)
+    placed(old, new, none, none, none, none, &dsts, &rhss, z)
 }
 
 // The first fault, where `fault` is that of the definitions before. It keeps one, so that the loop over records has no branch.
-fn next_fault(old: &[u64], fault: u8, dst: u16, rhs: u64, wires: usize) -> u8
-    ensures { λ r. ⌜ r ≡ orElse fault (pairsFault wires (now (old .entry)) [] (dst ∷ []) (rhs ∷ [])) ⌝ }
+fn next_fault<'a>(old: &'a [u64], new: &'a [u64], fault: u8, dst: u16, rhs: u64, wires: usize) -> u8
+    ensures { λ r. ⌜ r ≡ orElse fault (pairsFault wires (now (old .entry)) (now (new .entry)) (dst ∷ []) (rhs ∷ [])) ⌝ }
 {
     if fault != 0 {
         return fault;
     }
-    pair_fault(old, dst, rhs, wires)
+    pair_fault(old, new, dst, rhs, wires)
 }
 
 // The first fault of the first n definitions, read where they stand.
-fn records_fault(old: &[u64], defs: &[Definition], n: usize, wires: usize) -> u8
+fn records_fault<'a>(
+    old: &'a [u64],
+    new: &'a [u64],
+    defs: &[Definition],
+    n: usize,
+    wires: usize,
+) -> u8
     requires { ⌜ n ≤ length (now defs) ⌝ }
-    ensures { λ r. ⌜ r ≡ pairsFault wires (now (old .entry)) [] (take n (dstsOf (now (defs .entry)))) (take n (rhssOf (now (defs .entry)))) ⌝ }
+    ensures { λ r. ⌜ r ≡ pairsFault wires (now (old .entry)) (now (new .entry)) (take n (dstsOf (now (defs .entry)))) (take n (rhssOf (now (defs .entry)))) ⌝ }
 {
     let mut fault = 0;
     let mut k = 0;
     while k < n {
         let d = defs[k];
-        fault = next_fault(old, fault, d.dst, d.rhs, wires);
+        fault = next_fault(old, new, fault, d.dst, d.rhs, wires);
         k += 1;
     }
     fault
 }
 
 // The refusal where there are too many definitions, all of them there.
-fn past_fault(
-    old: &[u64],
+fn past_fault<'a>(
+    old: &'a [u64],
+    new: &'a [u64],
     ands: &[u64],
     imuls: &[u64],
     bmuls: &[u64],
@@ -170,7 +185,7 @@ fn past_fault(
     fault: u8,
     z: Sizes,
 ) -> u8
-    ensures { λ r. ⌜ r ≡ pastFault z (now (old .entry)) (now (ands .entry)) (now (imuls .entry)) (now (bmuls .entry)) (now (zeros .entry)) fault ⌝ }
+    ensures { λ r. ⌜ r ≡ pastFault z (now (old .entry)) (now (new .entry)) (now (ands .entry)) (now (imuls .entry)) (now (bmuls .entry)) (now (zeros .entry)) fault ⌝ }
 {
     let rows = Sizes {
         wires: z.wires,
@@ -180,7 +195,7 @@ fn past_fault(
         zeros: z.zeros,
         linears: 0,
     };
-    let in_rows = placed(old, ands, imuls, bmuls, zeros, dsts, rhss, rows);
+    let in_rows = placed(old, new, ands, imuls, bmuls, zeros, dsts, rhss, rows);
     if in_rows != 0 {
         return in_rows;
     }
@@ -241,7 +256,18 @@ fn fill_back_first(
     ensures { λ r. ⌜ FillsFirst n fault z (stores (now (old .entry)) [] (now (ands .entry)) (now (imuls .entry)) (now (bmuls .entry)) (now (zeros .entry)) (take m (now (dsts .entry))) (take m (now (rhss .entry)))) (now (flags .entry)) (now (assignment .entry)) (now (assignment .exit)) r ⌝ }
 {
     if n != 0 {
-        return past_fault(old, ands, imuls, bmuls, zeros, dsts, rhss, fault, z);
+        return past_fault(
+            old,
+            &old[0..0],
+            ands,
+            imuls,
+            bmuls,
+            zeros,
+            dsts,
+            rhss,
+            fault,
+            z,
+        );
     }
     fill_back_numbers(
         old,
@@ -275,7 +301,8 @@ pub fn fill_back_records(
     let len = defs.len();
     let m = held(len);
     let n = looked(len, z);
-    let fault = records_fault(old, defs, n, z.wires);
+    let none = no_terms(old);
+    let fault = records_fault(old, none, defs, n, z.wires);
     let mut dsts = no_dsts();
     let mut rhss = no_rhss();
     unload(defs, m, &mut dsts, &mut rhss);
@@ -352,6 +379,7 @@ fn fuse_first(
     if n != 0 {
         let past = past_fault(
             old,
+            &old[0..0],
             &*ands,
             &*imuls,
             &*bmuls,
@@ -398,7 +426,8 @@ pub fn fuse_records(
     let len = defs.len();
     let m = held(len);
     let n = looked(len, z);
-    let fault = records_fault(old, &*defs, n, z.wires);
+    let none = no_terms(old);
+    let fault = records_fault(old, none, &*defs, n, z.wires);
     let mut dsts = no_dsts();
     let mut rhss = no_rhss();
     unload(&*defs, m, &mut dsts, &mut rhss);

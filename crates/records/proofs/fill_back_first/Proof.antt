@@ -4,6 +4,15 @@ use borrow.Author.Needs.{needs}
 use Rattle.records.proofs.fill_back_first.Statement.{statement}
 use Rattle.records.proofs.fill_back_first.Tie as tie
 
+sub-past-fault : tie.Need-sub-past-fault
+sub-past-fault c = search needs
+
+part-past-fault-start : tie.Need-part-past-fault-start
+part-past-fault-start c = search needs
+
+part-past-fault-end : tie.Need-part-past-fault-end
+part-past-fault-end c = search needs
+
 past-fault-requires : tie.Need-past-fault-requires
 past-fault-requires c κs = search needs
 
@@ -22,4 +31,4 @@ returns-2 c = search fills-within
 pub fill-back-first-spec : {M : Type 1} → statement M
 fill-back-first-spec =
     tie.close
-    (tie.spec past-fault-requires returns fill-back-numbers-requires same-length returns-2)
+    (tie.spec sub-past-fault part-past-fault-start part-past-fault-end past-fault-requires returns fill-back-numbers-requires same-length returns-2)

@@ -1,13 +1,13 @@
--- `records::fill_back_records` meets its contract: a walk of its MIR, by hand, with seven calls. The records that count past the arrays are looked at where they stand; the two local arrays are lent to `unload`, come back with the records' numbers, and are lent to `fill_back_first`; of each callee the proof knows only its contract. Assumes nothing.
+-- `records::fill_back_records` meets its contract: a walk of its MIR, by hand, with eight calls. The records that count past the arrays are looked at where they stand; the two local arrays are lent to `unload`, come back with the records' numbers, and are lent to `fill_back_first`; of each callee the proof knows only its contract. Assumes nothing.
 use native.Mathlib.Omega.{arith}
-use Rattle.records.proofs.Kit.{_≡_, refl, ap, _∙_, ℕ, _-_, _<_, _≤_, _^_, [], _∷_, List, length, length-map, take, URA, fullShare, named, w16, w64, tyInt, erased, w8, tyArray, Val, vint, SProp, ent, emp, via, fst∗, id⊢, Lft, Share, GName, Fml, ftrue, fat, froom, flft, flent, Memory, Routine, Heap, WpFn, Tables, Calls, Loops, Atoms, Fun, fact, givenOf, tables, tablesOf, Given, Item, ‵, _⊛_, ⋆, _$_, _∵_, !, qed, by, move, keep, drop, use1, split, join, rewrite, fsplit, fjoin, suffices, frame, done, raw, some, later, cut, use0, use2, use3, pick, await, feqL, look, init, forget, stop, hop, fld, from, load, of-opd, and-then, no-more, assigns, returns, enter, alloc1, alloc0, params1, pass1, pass0, free1, free0, addr, land, agg, whole, sub, look-in, WpFn-mono, FmC, fmOf, RattleType, owns, Is, shows, uint-makes, uint-lawful, nothing-lawful, u16, u64, usize, u8, unit, RefT, sliceVal, slice-vals, mut-slice-tells, shr-slice-tells, shr-slice-copy, MutSlice, ShrSlice, Room, finally, Held, owned, nothing, only, peeks, heard, Vals, onEntry, Meets, tripleOf, entered, cited, says, Stays, walkOf, Walks, ends-at, walked, walk-meets, gave-slice, stay-dropped, goes-gave-slice, goes-dropped, yes, plain, shrSliceOf, lft-new, lft-end, lent-back, Array, array-lawful, Contract, Triple, calls-at, ensured, lasts}
+use Rattle.records.proofs.Kit.{_≡_, refl, ap, _∙_, ℕ, _-_, _<_, _≤_, _^_, [], _∷_, List, length, length-map, take, URA, fullShare, named, imm, w16, w64, tyInt, tyRef, erased, w8, tyArray, Val, vint, SProp, ent, emp, via, fst∗, id⊢, Lft, Share, GName, Fml, ftrue, fat, froom, flft, flent, Memory, Routine, Heap, WpFn, Tables, Calls, Loops, Atoms, Fun, fact, givenOf, tables, tablesOf, Given, Item, ‵, _⊛_, ⋆, _$_, _∵_, !, qed, by, move, keep, drop, use1, split, join, rewrite, fsplit, fjoin, suffices, frame, done, raw, some, later, cut, use0, use2, use3, pick, await, feqL, look, init, forget, stop, hop, fld, from, load, of-opd, and-then, no-more, assigns, returns, enter, alloc1, alloc0, params1, pass1, pass0, free1, free0, addr, land, agg, whole, sub, look-in, WpFn-mono, FmC, fmOf, RattleType, owns, Is, shows, uint-makes, uint-lawful, nothing-lawful, u16, u64, usize, u8, unit, RefT, sliceTy, sliceVal, slice-vals, mut-slice-tells, shr-slice-tells, shr-slice-copy, MutSlice, ShrSlice, Room, finally, Held, owned, nothing, only, peeks, heard, Vals, onEntry, Meets, tripleOf, entered, cited, says, Stays, walkOf, Walks, ends-at, walked, walk-meets, gave-slice, stay-dropped, goes-gave-slice, goes-dropped, yes, plain, shrSliceOf, lft-new, lft-end, lent-back, Array, array-lawful, Contract, Triple, calls-at, ensured, lasts}
 use Rattle.records.proofs.Arrays.{InMemory, array-in, array-room, lends-mut, mut-back, lends-shr, big}
-use Rattle.records.proofs.Blank.{NoDsts, NoRhss, Unload, Holds, toHeld, asked-held, Looks, toLooked, asked-looked, Faults, blank-dsts, blank-rhss, fits, room16, room64}
+use Rattle.records.proofs.Blank.{NoDsts, NoRhss, Unload, Holds, toHeld, asked-held, Looks, toLooked, asked-looked, NoTerms, slice-typed, Faults, blank-dsts, blank-rhss, fits, room16, room64}
 use Rattle.records.proofs.Parts.{front-some}
 use Rattle.records.proofs.Wholes.{looked-in, held-in, fills-records}
+use mathlib.Core.List.{map}
 use denote.Struct.Laws as LL
 use Rattle.lower.specs.declared.Sizes.{Sizes}
-use mathlib.Core.List.{map}
 use Rattle.lower.specs.Stores.{stores}
 use Rattle.lower.specs.Faults.{pairsFault}
 use Rattle.lower.proofs.Sizes as Z
@@ -41,6 +41,10 @@ use Rattle.records.proofs.looked as looked
 use Rattle.records.proofs.looked.Symbol as looked-def
 use Rattle.records.proofs.looked.Symbol.{name as #records·looked}
 use Rattle.records.proofs.looked.Met as looked-thm
+use Rattle.records.proofs.no_terms as no-terms
+use Rattle.records.proofs.no_terms.Symbol as no-terms-def
+use Rattle.records.proofs.no_terms.Symbol.{name as #records·no-terms}
+use Rattle.records.proofs.no_terms.Met as no-terms-thm
 use Rattle.records.proofs.records_fault as faults
 use Rattle.records.proofs.records_fault.Symbol as faults-def
 use Rattle.records.proofs.records_fault.Symbol.{name as #records·records-fault}
@@ -56,12 +60,12 @@ R = T.the-row
 abbrev stayed : Stays (entry.ended .signature .params) (entry.ended .kept)
 stayed = (stay-dropped (shrSliceOf (0 ∷ []) tt (plain (λ _. u64))) yes, (stay-dropped (shrSliceOf (1 ∷ []) tt (plain (λ _. u64))) yes, (stay-dropped (shrSliceOf (2 ∷ []) tt (plain (λ _. u64))) yes, (stay-dropped (shrSliceOf (3 ∷ []) tt (plain (λ _. u64))) yes, (stay-dropped (shrSliceOf (4 ∷ []) tt (plain (λ _. u64))) yes, (stay-dropped (shrSliceOf (5 ∷ []) tt (plain (λ _. R))) yes, (stay-dropped (plain (λ _. Z.the-row)) yes, (stay-dropped (shrSliceOf (6 ∷ []) tt (plain (λ _. u8))) yes, (gave-slice (7 ∷ []) tt (plain (λ _. u64)), tt)))))))))
 
--- the other contracts that the proof cites
+-- the other contract that the proof cites
 abbrev Fill : {M : Type 1} (𝓤 : URA M) (H : Heap 𝓤) (A : Atoms 𝓤) (mem : Memory → SProp 𝓤) (run : Routine → Fun 𝓤) → Contract 𝓤
 Fill 𝓤 H A mem run = tripleOf 𝓤 H A fill.signature (fill.spec 𝓤 H A mem run)
 
 module _ {M : Type 1} (𝓤 : URA M) (H : Heap 𝓤) (A : Atoms 𝓤) (W : Given 𝓤 H A) (mem : Memory → SProp 𝓤) (run : Routine → Fun 𝓤)
-    (κ₁ κ₂ κ₃ κ₄ κ₅ κ₆ κ₈ κ₉ : Lft) (q₁ q₂ q₃ q₄ q₅ q₆ q₈ q₉ : Share) (x₁ x₂ x₃ x₄ x₅ : RefT (List ℕ)) (x₆ : RefT (List Definition)) (z : Sizes) (x₈ x₉ : RefT (List ℕ))
+    (κ₁ κ₂ κ₃ κ₄ κ₅ κ₆ κ₈ κ₉ : Lft) (q₁ q₂ q₃ q₄ q₅ q₆ q₈ q₉ : Share) (x₁ : RefT (List ℕ)) (x₂ : RefT (List ℕ)) (x₃ : RefT (List ℕ)) (x₄ : RefT (List ℕ)) (x₅ : RefT (List ℕ)) (x₆ : RefT (List Definition)) (z : Sizes) (x₈ : RefT (List ℕ)) (x₉ : RefT (List ℕ))
     (room₁ : Room u64 (length (x₁ .now))) (room₂ : Room u64 (length (x₂ .now))) (room₃ : Room u64 (length (x₃ .now))) (room₄ : Room u64 (length (x₄ .now))) (room₅ : Room u64 (length (x₅ .now))) (room₆ : Room R (length (x₆ .now))) (gz : Is Z.the-row z (LL.vals Z.the-type Z′.the-laws z)) (room₈ : Room u8 (length (x₈ .now))) (room₉ : Room u64 (length (x₉ .now))) where
   abbrev len : ℕ
   len = length (x₆ .now)
@@ -96,14 +100,14 @@ module _ {M : Type 1} (𝓤 : URA M) (H : Heap 𝓤) (A : Atoms 𝓤) (W : Given
   abbrev v₆ : Val
   v₆ = sliceVal (x₆ .ptr) (length (x₆ .now))
 
+  abbrev vz : Val
+  vz = LL.val Z.the-type Z′.the-laws z
+
   abbrev v₈ : Val
   v₈ = sliceVal (x₈ .ptr) (length (x₈ .now))
 
   abbrev v₉ : Val
   v₉ = sliceVal (x₉ .ptr) (length (x₉ .now))
-
-  abbrev vz : Val
-  vz = LL.val Z.the-type Z′.the-laws z
 
   abbrev vals : Vals entry.signature (κ₁, (κ₂, (κ₃, (κ₄, (κ₅, (κ₆, (κ₈, (κ₉, tt))))))))
   vals = (v₁ ∷ [], (v₂ ∷ [], (v₃ ∷ [], (v₄ ∷ [], (v₅ ∷ [], (v₆ ∷ [], (vz ∷ [], (v₈ ∷ [], (v₉ ∷ [], tt)))))))))
@@ -136,133 +140,150 @@ module _ {M : Type 1} (𝓤 : URA M) (H : Heap 𝓤) (A : Atoms 𝓤) (W : Given
   Own₉ = MutSlice (named 7) κ₉ u64 .own x₉ (v₉ ∷ [])
 
   -- ---- what each callee asks
-  module _ (n : ℕ) where
+  abbrev toN : NoTerms 𝓤 H A mem run .Ghost
+  toN = (((κ₁, tt), (q₁, tt), tt, (x₁, tt), (v₁ ∷ [], tt)), tt)
+
+  abbrev AskN : List (Item 𝓤)
+  AskN = (‵ (flft κ₁ q₁) ⊛ ‵ ftrue) ∷ ‵ Own₁ ∷ []
+
+  asked-none : ent 𝓤 (⋆ 𝓤 H A AskN) (NoTerms 𝓤 H A mem run .pre toN)
+  asked-none = qed W AskN ∵ nothing ! $ move ! (2 ∷ 0 ∷ []) $ fjoin ! $ move ! (1 ∷ 0 ∷ []) $ join ! $ frame ! $ done !
+
+  module _ (n : ℕ) (xn : RefT (List ℕ)) where
     abbrev toX : Faults 𝓤 H A mem run .Ghost
-    toX = (((κ₁, (κ₆, tt)), (q₁, (q₆, tt)), tt, (x₁, (x₆, (n, (z .wires, tt)))), (v₁ ∷ [], (v₆ ∷ [], (vint w64 n ∷ [], (vint w64 (z .wires) ∷ [], tt))))), tt)
+    toX = (((κ₁, (κ₆, tt)), (q₁, (q₆, tt)), tt, (x₁, (xn, (x₆, (n, (z .wires, tt))))), (v₁ ∷ [], (sliceVal (xn .ptr) (length (xn .now)) ∷ [], (v₆ ∷ [], (vint w64 n ∷ [], (vint w64 (z .wires) ∷ [], tt)))))), tt)
 
-  abbrev AskX : List (Item 𝓤)
-  AskX = (‵ (flft κ₁ q₁) ⊛ ‵ (flft κ₆ q₆) ⊛ ‵ ftrue) ∷ ‵ Own₁ ∷ ‵ Own₆ ∷ []
+    abbrev AskX : List (Item 𝓤)
+    AskX = (‵ (flft κ₁ q₁) ⊛ ‵ (flft κ₆ q₆) ⊛ ‵ ftrue) ∷ ‵ Own₁ ∷ ‵ (ShrSlice (named 0) κ₁ u64 .own xn (sliceVal (xn .ptr) (length (xn .now)) ∷ [])) ∷ ‵ Own₆ ∷ []
 
-  asked-faults : (n : ℕ) → n < 2 ^ 64 → n ≤ length (x₆ .now) → ent 𝓤 (⋆ 𝓤 H A AskX) (Faults 𝓤 H A mem run .pre (toX n))
-  asked-faults n gn wide = qed W AskX ∵ says ! wide $ frame ! $
-      nothing ! $ owned ! usize (Is usize) (uint-makes 𝓤 H A W w64) (z .wires) _ (refl, LL.owed Z.the-type Z′.the-laws z _ gz .0 .1) $ fjoin ! $ owned ! usize (Is usize) (uint-makes 𝓤 H A W w64) n _ (refl, gn) $ fjoin ! $ move ! (2 ∷ 0 ∷ []) $ fjoin ! $ move ! (1 ∷ 0 ∷ []) $ fjoin ! $ done !
+    asked-faults : n < 2 ^ 64 → n ≤ length (x₆ .now) → ent 𝓤 (⋆ 𝓤 H A AskX) (Faults 𝓤 H A mem run .pre toX)
+    asked-faults gn wide = qed W AskX ∵ says ! wide $ frame ! $ nothing ! $ owned ! usize (Is usize) (uint-makes 𝓤 H A W w64) (z .wires) _ (refl, LL.owed Z.the-type Z′.the-laws z _ gz .0 .1) $ fjoin ! $ owned ! usize (Is usize) (uint-makes 𝓤 H A W w64) n _ (refl, gn) $ fjoin ! $ move ! (3 ∷ 0 ∷ []) $ fjoin ! $ move ! (2 ∷ 0 ∷ []) $ fjoin ! $ move ! (1 ∷ 0 ∷ []) $ fjoin ! $ done !
 
-  module _ (m : ℕ) (b₁ b₂ ν ν′ : ℕ) (δ δ′ : GName) (ys ys′ : List ℕ) where
+  module _ (m l₁ l₂ : ℕ) (ν ν′ : ℕ) (δ δ′ : GName) (as₁ as₂ : List ℕ) where
     abbrev toU : Unload 𝓤 H A mem run .Ghost
-    toU = (((κ₆, (ν ∷ [], (ν′ ∷ [], tt))), (q₆, (fullShare, (fullShare, tt))), tt, (x₆, (m, (record { ptr = (b₁, 0); name = δ; now = ys }, (record { ptr = (b₂, 0); name = δ′; now = ys′ }, tt)))), (v₆ ∷ [], (vint w64 m ∷ [], (sliceVal (b₁, 0) 1024 ∷ [], (sliceVal (b₂, 0) 1024 ∷ [], tt))))), tt)
+    toU = (((κ₆, (ν ∷ [], (ν′ ∷ [], tt))), (q₆, (fullShare, (fullShare, tt))), tt, (x₆, (m, (record { ptr = (l₁, 0); name = δ; now = as₁ }, (record { ptr = (l₂, 0); name = δ′; now = as₂ }, tt)))), (v₆ ∷ [], (vint w64 m ∷ [], (sliceVal (l₁, 0) 1024 ∷ [], (sliceVal (l₂, 0) 1024 ∷ [], tt))))), tt)
 
     abbrev AskU : List (Item 𝓤)
-    AskU = (‵ (flft κ₆ q₆) ⊛ ‵ (flft (ν ∷ []) fullShare) ⊛ ‵ (flft (ν′ ∷ []) fullShare) ⊛ ‵ ftrue) ∷ ‵ Own₆ ∷ ‵ (MutSlice erased (ν ∷ []) u16 .own (record { ptr = (b₁, 0); name = δ; now = ys }) (sliceVal (b₁, 0) 1024 ∷ [])) ∷ ‵ (MutSlice erased (ν′ ∷ []) u64 .own (record { ptr = (b₂, 0); name = δ′; now = ys′ }) (sliceVal (b₂, 0) 1024 ∷ [])) ∷ []
+    AskU = (‵ (flft κ₆ q₆) ⊛ ‵ (flft (ν ∷ []) fullShare) ⊛ ‵ (flft (ν′ ∷ []) fullShare) ⊛ ‵ ftrue) ∷ ‵ Own₆ ∷ ‵ (MutSlice erased (ν ∷ []) u16 .own (record { ptr = (l₁, 0); name = δ; now = as₁ }) (sliceVal (l₁, 0) 1024 ∷ [])) ∷ ‵ (MutSlice erased (ν′ ∷ []) u64 .own (record { ptr = (l₂, 0); name = δ′; now = as₂ }) (sliceVal (l₂, 0) 1024 ∷ [])) ∷ []
 
-    asked-unload : m < 2 ^ 64 → (m ≤ length (x₆ .now)) × (m ≤ length ys) × (m ≤ length ys′) → ent 𝓤 (⋆ 𝓤 H A AskU) (Unload 𝓤 H A mem run .pre toU)
-    asked-unload gm wide = qed W AskU ∵ says ! wide $ frame ! $
-        nothing ! $ move ! (3 ∷ 0 ∷ []) $ fjoin ! $ move ! (2 ∷ 0 ∷ []) $ fjoin ! $ owned ! usize (Is usize) (uint-makes 𝓤 H A W w64) m _ (refl, gm) $ fjoin ! $ move ! (1 ∷ 0 ∷ []) $ fjoin ! $ done !
+    asked-unload : m < 2 ^ 64 → (m ≤ length (x₆ .now)) × (m ≤ length as₁) × (m ≤ length as₂) → ent 𝓤 (⋆ 𝓤 H A AskU) (Unload 𝓤 H A mem run .pre toU)
+    asked-unload gm wide = qed W AskU ∵ says ! wide $ frame ! $ nothing ! $ move ! (3 ∷ 0 ∷ []) $ fjoin ! $ move ! (2 ∷ 0 ∷ []) $ fjoin ! $ owned ! usize (Is usize) (uint-makes 𝓤 H A W w64) m _ (refl, gm) $ fjoin ! $ move ! (1 ∷ 0 ∷ []) $ fjoin ! $ done !
 
-  module _ (m n fault : ℕ) (b₁ b₂ ν ν′ : ℕ) (δ δ′ : GName) (ys ys′ : List ℕ) where
+  module _ (m n fault l₁ l₂ ν ν′ : ℕ) (δ δ′ : GName) (as₁ as₂ : List ℕ) where
     abbrev toF : Fill 𝓤 H A mem run .Ghost
-    toF = (((κ₁, (κ₂, (κ₃, (κ₄, (κ₅, (ν ∷ [], (ν′ ∷ [], (κ₈, (κ₉, tt))))))))), (q₁, (q₂, (q₃, (q₄, (q₅, (fullShare, (fullShare, (q₈, (q₉, tt))))))))), tt, (x₁, (x₂, (x₃, (x₄, (x₅, (record { ptr = (b₁, 0); name = δ; now = ys }, (record { ptr = (b₂, 0); name = δ′; now = ys′ }, (m, (n, (fault, (z, (x₈, (x₉, tt))))))))))))), (v₁ ∷ [], (v₂ ∷ [], (v₃ ∷ [], (v₄ ∷ [], (v₅ ∷ [], (sliceVal (b₁, 0) 1024 ∷ [], (sliceVal (b₂, 0) 1024 ∷ [], (vint w64 m ∷ [], (vint w64 n ∷ [], (vint w8 fault ∷ [], (vz ∷ [], (v₈ ∷ [], (v₉ ∷ [], tt)))))))))))))), tt)
+    toF = (((κ₁, (κ₂, (κ₃, (κ₄, (κ₅, (ν ∷ [], (ν′ ∷ [], (κ₈, (κ₉, tt))))))))), (q₁, (q₂, (q₃, (q₄, (q₅, (fullShare, (fullShare, (q₈, (q₉, tt))))))))), tt, (x₁, (x₂, (x₃, (x₄, (x₅, (record { ptr = (l₁, 0); name = δ; now = as₁ }, (record { ptr = (l₂, 0); name = δ′; now = as₂ }, (m, (n, (fault, (z, (x₈, (x₉, tt))))))))))))), (v₁ ∷ [], (v₂ ∷ [], (v₃ ∷ [], (v₄ ∷ [], (v₅ ∷ [], (sliceVal (l₁, 0) 1024 ∷ [], (sliceVal (l₂, 0) 1024 ∷ [], (vint w64 m ∷ [], (vint w64 n ∷ [], (vint w8 fault ∷ [], (vz ∷ [], (v₈ ∷ [], (v₉ ∷ [], tt)))))))))))))), tt)
 
     abbrev AskF : List (Item 𝓤)
-    AskF = (‵ (flft κ₁ q₁) ⊛ ‵ (flft κ₂ q₂) ⊛ ‵ (flft κ₃ q₃) ⊛ ‵ (flft κ₄ q₄) ⊛ ‵ (flft κ₅ q₅) ⊛ ‵ (flft (ν ∷ []) fullShare) ⊛ ‵ (flft (ν′ ∷ []) fullShare) ⊛ ‵ (flft κ₈ q₈) ⊛ ‵ (flft κ₉ q₉) ⊛ ‵ ftrue) ∷ ‵ Own₁ ∷ ‵ Own₂ ∷ ‵ Own₃ ∷ ‵ Own₄ ∷ ‵ Own₅ ∷ ‵ (ShrSlice erased (ν ∷ []) u16 .own (record { ptr = (b₁, 0); name = δ; now = ys }) (sliceVal (b₁, 0) 1024 ∷ [])) ∷ ‵ (ShrSlice erased (ν′ ∷ []) u64 .own (record { ptr = (b₂, 0); name = δ′; now = ys′ }) (sliceVal (b₂, 0) 1024 ∷ [])) ∷ ‵ Own₈ ∷ ‵ Own₉ ∷ []
+    AskF = (‵ (flft κ₁ q₁) ⊛ ‵ (flft κ₂ q₂) ⊛ ‵ (flft κ₃ q₃) ⊛ ‵ (flft κ₄ q₄) ⊛ ‵ (flft κ₅ q₅) ⊛ ‵ (flft (ν ∷ []) fullShare) ⊛ ‵ (flft (ν′ ∷ []) fullShare) ⊛ ‵ (flft κ₈ q₈) ⊛ ‵ (flft κ₉ q₉) ⊛ ‵ ftrue) ∷ ‵ Own₁ ∷ ‵ Own₂ ∷ ‵ Own₃ ∷ ‵ Own₄ ∷ ‵ Own₅ ∷ ‵ (ShrSlice erased (ν ∷ []) u16 .own (record { ptr = (l₁, 0); name = δ; now = as₁ }) (sliceVal (l₁, 0) 1024 ∷ [])) ∷ ‵ (ShrSlice erased (ν′ ∷ []) u64 .own (record { ptr = (l₂, 0); name = δ′; now = as₂ }) (sliceVal (l₂, 0) 1024 ∷ [])) ∷ ‵ Own₈ ∷ ‵ Own₉ ∷ []
 
-    asked-fill : m < 2 ^ 64 → n < 2 ^ 64 → fault < 2 ^ 8 → (m ≤ length ys) × (m ≤ length ys′) → ent 𝓤 (⋆ 𝓤 H A AskF) (Fill 𝓤 H A mem run .pre toF)
-    asked-fill gm gn gf wide = qed W AskF ∵ says ! wide $ frame ! $
-        nothing ! $ move ! (9 ∷ 0 ∷ []) $ fjoin ! $ move ! (8 ∷ 0 ∷ []) $ fjoin ! $ owned ! Z.the-row (Is Z.the-row) (LL.makes Z.the-type Z′.the-plain 𝓤 H A) z _ gz $ fjoin ! $ owned ! u8 (Is u8) (uint-makes 𝓤 H A W w8) fault _ (refl, gf) $ fjoin ! $ owned ! usize (Is usize) (uint-makes 𝓤 H A W w64) n _ (refl, gn) $ fjoin ! $ owned ! usize (Is usize) (uint-makes 𝓤 H A W w64) m _ (refl, gm) $ fjoin ! $ move ! (7 ∷ 0 ∷ []) $ fjoin ! $ move ! (6 ∷ 0 ∷ []) $ fjoin ! $ move ! (5 ∷ 0 ∷ []) $ fjoin ! $ move ! (4 ∷ 0 ∷ []) $ fjoin ! $ move ! (3 ∷ 0 ∷ []) $ fjoin ! $ move ! (2 ∷ 0 ∷ []) $ fjoin ! $ move ! (1 ∷ 0 ∷ []) $ fjoin ! $ done !
+    asked-first : m < 2 ^ 64 → n < 2 ^ 64 → fault < 2 ^ 8 → (m ≤ length as₁) × (m ≤ length as₂) → ent 𝓤 (⋆ 𝓤 H A AskF) (Fill 𝓤 H A mem run .pre toF)
+    asked-first gm gn gf wide = qed W AskF ∵ says ! wide $ frame ! $ nothing ! $ move ! (9 ∷ 0 ∷ []) $ fjoin ! $ move ! (8 ∷ 0 ∷ []) $ fjoin ! $ owned ! Z.the-row (Is Z.the-row) (LL.makes Z.the-type Z′.the-plain 𝓤 H A) z _ gz $ fjoin ! $ owned ! u8 (Is u8) (uint-makes 𝓤 H A W w8) fault _ (refl, gf) $ fjoin ! $ owned ! usize (Is usize) (uint-makes 𝓤 H A W w64) n _ (refl, gn) $ fjoin ! $ owned ! usize (Is usize) (uint-makes 𝓤 H A W w64) m _ (refl, gm) $ fjoin ! $ move ! (7 ∷ 0 ∷ []) $ fjoin ! $ move ! (6 ∷ 0 ∷ []) $ fjoin ! $ move ! (5 ∷ 0 ∷ []) $ fjoin ! $ move ! (4 ∷ 0 ∷ []) $ fjoin ! $ move ! (3 ∷ 0 ∷ []) $ fjoin ! $ move ! (2 ∷ 0 ∷ []) $ fjoin ! $ move ! (1 ∷ 0 ∷ []) $ fjoin ! $ done !
 
-  exits : (r : ℕ) (ws : List ℕ) → r < 2 ^ 8 → FillsIs z (storesBy (x₁ .now) [] (x₂ .now) (x₃ .now) (x₄ .now) (x₅ .now) (x₆ .now)) (x₈ .now) (x₉ .now) ws r → length ws ≡ length (x₉ .now)
-      → ent 𝓤 (⋆ 𝓤 H A ((‵ (flft κ₁ q₁) ⊛ ‵ (flft κ₂ q₂) ⊛ ‵ (flft κ₃ q₃) ⊛ ‵ (flft κ₄ q₄) ⊛ ‵ (flft κ₅ q₅) ⊛ ‵ (flft κ₆ q₆) ⊛ ‵ (flft κ₈ q₈) ⊛ ‵ (flft κ₉ q₉) ⊛ ‵ ftrue) ∷ ‵ (finally u64 (x₉ .name) ws) ∷ [])) (Post (vint w8 r))
-  exits r ws small f k =
-      qed W ((‵ (flft κ₁ q₁) ⊛ ‵ (flft κ₂ q₂) ⊛ ‵ (flft κ₃ q₃) ⊛ ‵ (flft κ₄ q₄) ⊛ ‵ (flft κ₅ q₅) ⊛ ‵ (flft κ₆ q₆) ⊛ ‵ (flft κ₈ q₈) ⊛ ‵ (flft κ₉ q₉) ⊛ ‵ ftrue) ∷ ‵ (finally u64 (x₉ .name) ws) ∷ []) ∵
-      suffices ! _ (ends-at 𝓤 H A entry.ended stayed (entry.clauses 𝓤 H A mem run) W (((κ₁, (κ₂, (κ₃, (κ₄, (κ₅, (κ₆, (κ₈, (κ₉, tt)))))))), (q₁, (q₂, (q₃, (q₄, (q₅, (q₆, (q₈, (q₉, tt)))))))), tt, a, vals), tt) (vint w8 r) r (tt, (tt, (tt, (tt, (tt, (tt, (tt, (tt, (ws, tt))))))))) (tt, (tt, (tt, (tt, (tt, (tt, (tt, (tt, (k, tt)))))))))) $ says ! f $ frame ! $
-      nothing ! $ move ! (1 ∷ 0 ∷ []) $ fjoin ! $ nothing ! $ fjoin ! $ nothing ! $ fjoin ! $ nothing ! $ fjoin ! $ nothing ! $ fjoin ! $ nothing ! $ fjoin ! $ nothing ! $ fjoin ! $ nothing ! $ fjoin ! $ nothing ! $ fjoin ! $ frame ! $ owned ! u8 (Is u8) (uint-makes 𝓤 H A W w8) r _ (refl, small) $ done !
+  module _ (r : ℕ) (ws : List ℕ) where
+    abbrev Had : List (Item 𝓤)
+    Had = (‵ (flft κ₁ q₁) ⊛ ‵ (flft κ₂ q₂) ⊛ ‵ (flft κ₃ q₃) ⊛ ‵ (flft κ₄ q₄) ⊛ ‵ (flft κ₅ q₅) ⊛ ‵ (flft κ₆ q₆) ⊛ ‵ (flft κ₈ q₈) ⊛ ‵ (flft κ₉ q₉) ⊛ ‵ ftrue) ∷ ‵ (finally u64 (x₉ .name) ws) ∷ []
 
-  module _ (C : Calls 𝓤 H) (Λ : Loops 𝓤 H) (fm : FmC 𝓤 H (W .laws) C) (known₁ : Triple 𝓤 (C #records·no-dsts) (NoDsts 𝓤 H A mem run)) (known₂ : Triple 𝓤 (C #records·no-rhss) (NoRhss 𝓤 H A mem run)) (known₃ : Triple 𝓤 (C #records·unload) (Unload 𝓤 H A mem run)) (known₄ : Triple 𝓤 (C #records·fill-back-first) (Fill 𝓤 H A mem run)) (known₅ : Triple 𝓤 (C #records·held) (Holds 𝓤 H A mem run)) (known₆ : Triple 𝓤 (C #records·looked) (Looks 𝓤 H A mem run)) (known₇ : Triple 𝓤 (C #records·records-fault) (Faults 𝓤 H A mem run)) where
+    exits : r < 2 ^ 8 → length ws ≡ length (x₉ .now) → FillsIs z (storesBy (x₁ .now) [] (x₂ .now) (x₃ .now) (x₄ .now) (x₅ .now) (x₆ .now)) (x₈ .now) (x₉ .now) ws r
+        → ent 𝓤 (⋆ 𝓤 H A Had) (Post (vint w8 r))
+    exits small k f =
+        qed W Had ∵
+        suffices ! _ (ends-at 𝓤 H A entry.ended stayed (entry.clauses 𝓤 H A mem run) W (((κ₁, (κ₂, (κ₃, (κ₄, (κ₅, (κ₆, (κ₈, (κ₉, tt)))))))), (q₁, (q₂, (q₃, (q₄, (q₅, (q₆, (q₈, (q₉, tt)))))))), tt, a, vals), tt) (vint w8 r) r (tt, (tt, (tt, (tt, (tt, (tt, (tt, (tt, (ws, tt))))))))) (tt, (tt, (tt, (tt, (tt, (tt, (tt, (tt, (k, tt)))))))))) $ says ! f $ frame ! $
+        nothing ! $ move ! (1 ∷ 0 ∷ []) $ fjoin ! $ nothing ! $ fjoin ! $ nothing ! $ fjoin ! $ nothing ! $ fjoin ! $ nothing ! $ fjoin ! $ nothing ! $ fjoin ! $ nothing ! $ fjoin ! $ nothing ! $ fjoin ! $ nothing ! $ fjoin ! $ frame ! $ owned ! u8 (Is u8) (uint-makes 𝓤 H A W w8) r _ (refl, small) $ done !
+
+  module _ (C : Calls 𝓤 H) (Λ : Loops 𝓤 H) (fm : FmC 𝓤 H (W .laws) C) (known₁ : Triple 𝓤 (C #records·no-dsts) (NoDsts 𝓤 H A mem run)) (known₂ : Triple 𝓤 (C #records·no-rhss) (NoRhss 𝓤 H A mem run)) (known₃ : Triple 𝓤 (C #records·unload) (Unload 𝓤 H A mem run)) (known₄ : Triple 𝓤 (C #records·fill-back-first) (Fill 𝓤 H A mem run)) (known₅ : Triple 𝓤 (C #records·held) (Holds 𝓤 H A mem run)) (known₆ : Triple 𝓤 (C #records·looked) (Looks 𝓤 H A mem run)) (known₇ : Triple 𝓤 (C #records·no-terms) (NoTerms 𝓤 H A mem run)) (known₈ : Triple 𝓤 (C #records·records-fault) (Faults 𝓤 H A mem run)) where
     walk : ent 𝓤 (onEntry 𝓤 H A entry.signature (κ₁, (κ₂, (κ₃, (κ₄, (κ₅, (κ₆, (κ₈, (κ₉, tt)))))))) (q₁, (q₂, (q₃, (q₄, (q₅, (q₆, (q₈, (q₉, tt)))))))) a vals) (WpFn 𝓤 H C Λ code.function (v₁ ∷ v₂ ∷ v₃ ∷ v₄ ∷ v₅ ∷ v₆ ∷ vz ∷ v₈ ∷ v₉ ∷ []) Post)
     walk =
         qed W ((‵ (flft κ₁ q₁) ⊛ ‵ (flft κ₂ q₂) ⊛ ‵ (flft κ₃ q₃) ⊛ ‵ (flft κ₄ q₄) ⊛ ‵ (flft κ₅ q₅) ⊛ ‵ (flft κ₆ q₆) ⊛ ‵ (flft κ₈ q₈) ⊛ ‵ (flft κ₉ q₉) ⊛ ‵ ftrue) ∷ ‵ (owns (ShrSlice (named 0) κ₁ u64 ∷ ShrSlice (named 1) κ₂ u64 ∷ ShrSlice (named 2) κ₃ u64 ∷ ShrSlice (named 3) κ₄ u64 ∷ ShrSlice (named 4) κ₅ u64 ∷ ShrSlice (named 5) κ₆ R ∷ Z.the-row ∷ ShrSlice (named 6) κ₈ u8 ∷ MutSlice (named 7) κ₉ u64 ∷ []) a vals) ∷ []) ∵
         enter ! C Λ code.function (v₁ ∷ v₂ ∷ v₃ ∷ v₄ ∷ v₅ ∷ v₆ ∷ vz ∷ v₈ ∷ v₉ ∷ []) _ $
-        alloc1 ! (λ l₀. alloc1 ! (λ l₁. alloc1 ! (λ l₂. alloc1 ! (λ l₃. alloc1 ! (λ l₄. alloc1 ! (λ l₅. alloc1 ! (λ l₆. alloc1 ! (λ l₇. alloc1 ! (λ l₈. alloc1 ! (λ l₉. alloc1 ! (λ l₁₀. alloc1 ! (λ l₁₁. alloc1 ! (λ l₁₂. alloc1 ! (λ l₁₃. alloc1 ! (λ l₁₄. alloc1 ! (λ l₁₅. alloc1 ! (λ l₁₆. alloc1 ! (λ l₁₇. alloc1 ! (λ l₁₈. alloc1 ! (λ l₁₉. alloc1 ! (λ l₂₀. alloc1 ! (λ l₂₁. alloc1 ! (λ l₂₂. alloc1 ! (λ l₂₃. alloc1 ! (λ l₂₄. alloc1 ! (λ l₂₅. alloc1 ! (λ l₂₆. alloc1 ! (λ l₂₇. alloc1 ! (λ l₂₈. alloc0 ! $ params1 ! $
-        pass1 ! (init ! 54 refl (tt, (tt, (record { fits = room₁ .0 }, tt)))) $ pass1 ! (init ! 52 refl (tt, (tt, (record { fits = room₂ .0 }, tt)))) $ pass1 ! (init ! 50 refl (tt, (tt, (record { fits = room₃ .0 }, tt)))) $ pass1 ! (init ! 48 refl (tt, (tt, (record { fits = room₄ .0 }, tt)))) $ pass1 ! (init ! 46 refl (tt, (tt, (record { fits = room₅ .0 }, tt)))) $ pass1 ! (init ! 44 refl (tt, (tt, (record { fits = room₆ .0 }, tt)))) $ pass1 ! (init ! 42 refl (LL.lawful Z.the-type Z′.the-laws 𝓤 H A W .typed z (vz ∷ []) gz .0)) $ pass1 ! (init ! 40 refl (tt, (tt, (record { fits = room₈ .0 }, tt)))) $ pass1 ! (init ! 38 refl (tt, (tt, (record { fits = room₉ .0 }, tt)))) $ pass0 ! $
-        assigns ! (of-opd ! (load ! (from ! (fld ! refl (stop !))) (look-in ! 44 (sub ! 1 refl (whole !))))) (from ! (stop !)) (init ! 36 refl (tt, record { fits = room₆ .0 })) $
-        move ! (58 ∷ []) $ split ! $ move ! (1 ∷ []) $ split ! $ move ! (1 ∷ []) $ split ! $ move ! (1 ∷ []) $ split ! $ move ! (1 ∷ []) $ split ! $ move ! (1 ∷ []) $ split ! $ move ! (1 ∷ []) $ split ! $ move ! (1 ∷ []) $ split ! $ move ! (1 ∷ []) $ drop ! $ move ! (66 ∷ []) $ fsplit ! $ move ! (1 ∷ []) $ fsplit ! $ move ! (1 ∷ []) $ fsplit ! $ move ! (1 ∷ []) $ fsplit ! $ move ! (1 ∷ []) $ fsplit ! $ move ! (1 ∷ []) $ fsplit ! $ move ! (1 ∷ []) $ fsplit ! $ drop ! $ fsplit ! $ move ! (1 ∷ []) $ fsplit ! $ move ! (1 ∷ []) $ drop ! $
+        alloc1 ! (λ l₀. alloc1 ! (λ l₁. alloc1 ! (λ l₂. alloc1 ! (λ l₃. alloc1 ! (λ l₄. alloc1 ! (λ l₅. alloc1 ! (λ l₆. alloc1 ! (λ l₇. alloc1 ! (λ l₈. alloc1 ! (λ l₉. alloc1 ! (λ l₁₀. alloc1 ! (λ l₁₁. alloc1 ! (λ l₁₂. alloc1 ! (λ l₁₃. alloc1 ! (λ l₁₄. alloc1 ! (λ l₁₅. alloc1 ! (λ l₁₆. alloc1 ! (λ l₁₇. alloc1 ! (λ l₁₈. alloc1 ! (λ l₁₉. alloc1 ! (λ l₂₀. alloc1 ! (λ l₂₁. alloc1 ! (λ l₂₂. alloc1 ! (λ l₂₃. alloc1 ! (λ l₂₄. alloc1 ! (λ l₂₅. alloc1 ! (λ l₂₆. alloc1 ! (λ l₂₇. alloc1 ! (λ l₂₈. alloc1 ! (λ l₂₉. alloc0 ! $ params1 ! $
+        pass1 ! (init ! 56 refl (tt, (tt, (record { fits = room₁ .0 }, tt)))) $ pass1 ! (init ! 54 refl (tt, (tt, (record { fits = room₂ .0 }, tt)))) $ pass1 ! (init ! 52 refl (tt, (tt, (record { fits = room₃ .0 }, tt)))) $ pass1 ! (init ! 50 refl (tt, (tt, (record { fits = room₄ .0 }, tt)))) $ pass1 ! (init ! 48 refl (tt, (tt, (record { fits = room₅ .0 }, tt)))) $ pass1 ! (init ! 46 refl (tt, (tt, (record { fits = room₆ .0 }, tt)))) $ pass1 ! (init ! 44 refl (LL.lawful Z.the-type Z′.the-laws 𝓤 H A W .typed z (vz ∷ []) gz .0)) $ pass1 ! (init ! 42 refl (tt, (tt, (record { fits = room₈ .0 }, tt)))) $ pass1 ! (init ! 40 refl (tt, (tt, (record { fits = room₉ .0 }, tt)))) $ pass0 ! $
+        assigns ! (of-opd ! (load ! (from ! (fld ! refl (stop !))) (look-in ! 46 (sub ! 1 refl (whole !))))) (from ! (stop !)) (init ! 38 refl (tt, record { fits = room₆ .0 })) $
+        move ! (60 ∷ []) $ split ! $ move ! (1 ∷ []) $ split ! $ move ! (1 ∷ []) $ split ! $ move ! (1 ∷ []) $ split ! $ move ! (1 ∷ []) $ split ! $ move ! (1 ∷ []) $ split ! $ move ! (1 ∷ []) $ split ! $ move ! (1 ∷ []) $ split ! $ move ! (1 ∷ []) $ drop ! $ move ! (68 ∷ []) $ fsplit ! $ move ! (1 ∷ []) $ fsplit ! $ move ! (1 ∷ []) $ fsplit ! $ move ! (1 ∷ []) $ fsplit ! $ move ! (1 ∷ []) $ fsplit ! $ move ! (1 ∷ []) $ fsplit ! $ move ! (1 ∷ []) $ fsplit ! $ drop ! $ fsplit ! $ move ! (1 ∷ []) $ fsplit ! $ move ! (1 ∷ []) $ drop ! $
         -- how many records count, and the fault of those past the arrays
-        use0 W (raw (Holds 𝓤 H A mem run .pre (toHeld 𝓤 H A mem run len))) (asked-held 𝓤 H A mem run W len (room₆ .0)) $ calls-at ! fm (Holds 𝓤 H A mem run) known₅ (toHeld 𝓤 H A mem run len) (and-then ! (load ! (from ! (stop !)) (look ! 53 refl)) (no-more !)) (λ u₅.
-        use1 W (later (some (λ (m : ℕ). (‵ ftrue ⊛ ‵ (usize .own m (u₅ ∷ []))) ⊛ raw (ensured 𝓤 H A held.ended (held.clauses 𝓤 H A mem run) tt (len, tt) tt m)))) (id⊢ 𝓤 _) $ await ! tt $ pick ! (λ m. split ! $ move ! (1 ∷ []) $ use1 W (some (λ (zs : Unit {0} × Unit {0}). ‵ (lasts held.ended tt (len, tt) zs) ⊛ raw (fact 𝓤 (m ≡ S.held len)))) (id⊢ 𝓤 _) $ pick ! (λ zs. split ! $ move ! (1 ∷ []) $ heard ! (m ≡ S.held len) (λ em. drop ! $
-        split ! $ drop ! $ peeks ! usize (Is usize) (shows 𝓤 H A usize) m (u₅ ∷ []) (λ is₅. land ! (from ! (stop !)) (init ! 51 refl (uint-lawful 𝓤 H A W w64 .typed m _ is₅ .0)) $ rewrite ! 51 (λ (v : Val). ‵ (fat fullShare (tyInt w64) l₁₁ 0 v)) (ap only (is₅ .0)) refl $ drop ! $
-        use0 W (raw (Looks 𝓤 H A mem run .pre (toLooked 𝓤 H A mem run len z))) (asked-looked 𝓤 H A mem run W len z (room₆ .0) gz) $ calls-at ! fm (Looks 𝓤 H A mem run) known₆ (toLooked 𝓤 H A mem run len z) (and-then ! (load ! (from ! (stop !)) (look ! 53 refl)) (and-then ! (load ! (from ! (stop !)) (look ! 59 refl)) (no-more !))) (λ u₆.
-        use1 W (later (some (λ (n : ℕ). (‵ ftrue ⊛ ‵ (usize .own n (u₆ ∷ []))) ⊛ raw (ensured 𝓤 H A looked.ended (looked.clauses 𝓤 H A mem run) tt (len, (z, tt)) tt n)))) (id⊢ 𝓤 _) $ await ! tt $ pick ! (λ n. split ! $ move ! (1 ∷ []) $ use1 W (some (λ (zs : Unit {0} × (Unit {0} × Unit {0})). ‵ (lasts looked.ended tt (len, (z, tt)) zs) ⊛ raw (fact 𝓤 (n ≡ S.looked len z)))) (id⊢ 𝓤 _) $ pick ! (λ zs. split ! $ move ! (1 ∷ []) $ heard ! (n ≡ S.looked len z) (λ en. drop ! $
-        split ! $ drop ! $ peeks ! usize (Is usize) (shows 𝓤 H A usize) n (u₆ ∷ []) (λ is₆. land ! (from ! (stop !)) (init ! 49 refl (uint-lawful 𝓤 H A W w64 .typed n _ is₆ .0)) $ rewrite ! 49 (λ (v : Val). ‵ (fat fullShare (tyInt w64) l₁₂ 0 v)) (ap only (is₆ .0)) refl $ drop ! $
-        move ! (7 ∷ []) $ use1 W (‵ Own₁ ⊛ ‵ Own₁) (shr-slice-copy 𝓤 H A W (named 0) κ₁ u64 .twice x₁ (v₁ ∷ [])) $ split ! $ move ! (4 ∷ []) $ use1 W (‵ Own₆ ⊛ ‵ Own₆) (shr-slice-copy 𝓤 H A W (named 5) κ₆ R .twice x₆ (v₆ ∷ [])) $ split ! $ nothing ! $ move ! (13 ∷ 0 ∷ []) $ join ! $ move ! (17 ∷ 0 ∷ []) $ join ! $ move ! (0 ∷ 4 ∷ 2 ∷ []) $ cut (AskX) (raw (Faults 𝓤 H A mem run .pre (toX n)) ∷ []) _ (asked-faults n (is₆ .1) (looked-in len z n en)) $
-        calls-at ! fm (Faults 𝓤 H A mem run) known₇ (toX n) (and-then ! (load ! (from ! (stop !)) (look ! 69 refl)) (and-then ! (load ! (from ! (stop !)) (look ! 59 refl)) (and-then ! (load ! (from ! (stop !)) (look ! 47 refl)) (and-then ! (load ! (from ! (fld ! refl (stop !))) (look-in ! 57 (sub ! 0 refl (whole !)))) (no-more !))))) (λ u₇.
-        use1 W (later (some (λ (fault : ℕ). ((‵ (flft κ₁ q₁) ⊛ ‵ (flft κ₆ q₆) ⊛ ‵ ftrue) ⊛ ‵ (u8 .own fault (u₇ ∷ []))) ⊛ raw (ensured 𝓤 H A faults.ended (faults.clauses 𝓤 H A mem run) (κ₁, (κ₆, tt)) (x₁, (x₆, (n, (z .wires, tt)))) tt fault)))) (id⊢ 𝓤 _) $ await ! tt $ pick ! (λ fault. split ! $
-        move ! (1 ∷ []) $ use1 W (some (λ (zs : Unit {0} × (Unit {0} × (Unit {0} × (Unit {0} × Unit {0})))). ‵ (lasts faults.ended (κ₁, (κ₆, tt)) (x₁, (x₆, (n, (z .wires, tt)))) zs) ⊛ raw (fact 𝓤 (fault ≡ pairsFault (z .wires) (x₁ .now) [] (take n (dstsOf (x₆ .now))) (take n (rhssOf (x₆ .now))))))) (id⊢ 𝓤 _) $ pick ! (λ zs. split ! $ move ! (1 ∷ []) $ heard ! (fault ≡ pairsFault (z .wires) (x₁ .now) [] (take n (dstsOf (x₆ .now))) (take n (rhssOf (x₆ .now)))) (λ ef. drop ! $
-        split ! $ move ! (1 ∷ []) $ peeks ! u8 (Is u8) (shows 𝓤 H A u8) fault (u₇ ∷ []) (λ is₇. land ! (from ! (stop !)) (init ! 46 refl (uint-lawful 𝓤 H A W w8 .typed fault _ is₇ .0)) $ rewrite ! 46 (λ (v : Val). ‵ (fat fullShare (tyInt w8) l₁₃ 0 v)) (ap only (is₇ .0)) refl $ drop ! $ split ! $ move ! (1 ∷ []) $ split ! $ move ! (1 ∷ []) $ drop ! $
+        use0 W (raw (Holds 𝓤 H A mem run .pre (toHeld 𝓤 H A mem run len))) (asked-held 𝓤 H A mem run W len (room₆ .0)) $ calls-at ! fm (Holds 𝓤 H A mem run) known₅ (toHeld 𝓤 H A mem run len) (and-then ! (load ! (from ! (stop !)) (look ! 55 refl)) (no-more !)) (λ uh.
+        use1 W (later (some (λ (m : ℕ). (‵ ftrue ⊛ ‵ (usize .own m (uh ∷ []))) ⊛ raw (ensured 𝓤 H A held.ended (held.clauses 𝓤 H A mem run) tt (len, tt) tt m)))) (id⊢ 𝓤 _) $ await ! tt $ pick ! (λ m. split ! $
+        move ! (1 ∷ []) $ use1 W (some (λ (zs : Unit {0} × Unit {0}). ‵ (lasts held.ended tt (len, tt) zs) ⊛ raw (fact 𝓤 (m ≡ S.held len)))) (id⊢ 𝓤 _) $ pick ! (λ zs. split ! $ move ! (1 ∷ []) $ heard ! (m ≡ S.held len) (λ em. drop ! $
+        split ! $ drop ! $ peeks ! usize (Is usize) (shows 𝓤 H A usize) m (uh ∷ []) (λ isₘ. land ! (from ! (stop !)) (init ! 53 refl (uint-lawful 𝓤 H A W w64 .typed m _ isₘ .0)) $ rewrite ! 53 (λ (v : Val). ‵ (fat fullShare (tyInt w64) l₁₁ 0 v)) (ap only (isₘ .0)) refl $ drop ! $
+        use0 W (raw (Looks 𝓤 H A mem run .pre (toLooked 𝓤 H A mem run len z))) (asked-looked 𝓤 H A mem run W len z (room₆ .0) gz) $ calls-at ! fm (Looks 𝓤 H A mem run) known₆ (toLooked 𝓤 H A mem run len z) (and-then ! (load ! (from ! (stop !)) (look ! 55 refl)) (and-then ! (load ! (from ! (stop !)) (look ! 61 refl)) (no-more !))) (λ ul.
+        use1 W (later (some (λ (n : ℕ). (‵ ftrue ⊛ ‵ (usize .own n (ul ∷ []))) ⊛ raw (ensured 𝓤 H A looked.ended (looked.clauses 𝓤 H A mem run) tt (len, (z, tt)) tt n)))) (id⊢ 𝓤 _) $ await ! tt $ pick ! (λ n. split ! $
+        move ! (1 ∷ []) $ use1 W (some (λ (zs : Unit {0} × (Unit {0} × Unit {0})). ‵ (lasts looked.ended tt (len, (z, tt)) zs) ⊛ raw (fact 𝓤 (n ≡ S.looked len z)))) (id⊢ 𝓤 _) $ pick ! (λ zs. split ! $ move ! (1 ∷ []) $ heard ! (n ≡ S.looked len z) (λ en. drop ! $
+        split ! $ drop ! $ peeks ! usize (Is usize) (shows 𝓤 H A usize) n (ul ∷ []) (λ isₙ. land ! (from ! (stop !)) (init ! 51 refl (uint-lawful 𝓤 H A W w64 .typed n _ isₙ .0)) $ rewrite ! 51 (λ (v : Val). ‵ (fat fullShare (tyInt w64) l₁₂ 0 v)) (ap only (isₙ .0)) refl $ drop ! $
+        move ! (7 ∷ []) $ use1 W (‵ Own₁ ⊛ ‵ Own₁) (shr-slice-copy 𝓤 H A W (named 0) κ₁ u64 .twice x₁ (v₁ ∷ [])) $ split ! $ nothing ! $ move ! (17 ∷ 0 ∷ []) $ join ! $ cut AskN (raw (NoTerms 𝓤 H A mem run .pre toN) ∷ []) _ (asked-none) $
+        calls-at ! fm (NoTerms 𝓤 H A mem run) known₇ toN (and-then ! (load ! (from ! (stop !)) (look ! 72 refl)) (no-more !)) (λ un.
+        use1 W (later (some (λ (xn : RefT (List ℕ)). ((‵ (flft κ₁ q₁) ⊛ ‵ ftrue) ⊛ ‵ (ShrSlice (named 0) κ₁ u64 .own xn (un ∷ []))) ⊛ raw (ensured 𝓤 H A no-terms.ended (no-terms.clauses 𝓤 H A mem run) (κ₁, tt) (x₁, tt) tt xn)))) (id⊢ 𝓤 _) $ await ! tt $ pick ! (λ xn. split ! $
+        move ! (1 ∷ []) $ use1 W (some (λ (zs : Unit {0} × Unit {0}). ‵ (lasts no-terms.ended (κ₁, tt) (x₁, tt) zs) ⊛ raw (fact 𝓤 (xn .now ≡ [])))) (id⊢ 𝓤 _) $ pick ! (λ zs. split ! $ move ! (1 ∷ []) $ heard ! (xn .now ≡ []) (λ nn. drop ! $
+        split ! $ move ! (1 ∷ []) $ peeks ! (ShrSlice (named 0) κ₁ u64) (Is (ShrSlice (named 0) κ₁ u64)) (shows 𝓤 H A (ShrSlice (named 0) κ₁ u64)) xn (un ∷ []) (λ isₓ. land ! (from ! (stop !)) (init ! 49 refl (slice-typed xn un (isₓ .0 .0) (isₓ .0 .1))) $ rewrite ! 49 (λ (v : Val). ‵ (fat fullShare (sliceTy (tyRef erased imm (tyInt w64))) l₁₃ 0 v)) (ap only (isₓ .0 .0)) refl $ rewrite ! 0 (λ (vs : List Val). ‵ (ShrSlice (named 0) κ₁ u64 .own xn vs)) (isₓ .0 .0) refl $ move ! (1 ∷ []) $ split ! $ move ! (1 ∷ []) $ drop ! $
+        move ! (2 ∷ []) $ use1 W (‵ Own₁ ⊛ ‵ Own₁) (shr-slice-copy 𝓤 H A W (named 0) κ₁ u64 .twice x₁ (v₁ ∷ [])) $ split ! $ move ! (6 ∷ []) $ use1 W (‵ Own₆ ⊛ ‵ Own₆) (shr-slice-copy 𝓤 H A W (named 5) κ₆ R .twice x₆ (v₆ ∷ [])) $ split ! $ nothing ! $ move ! (15 ∷ 0 ∷ []) $ join ! $ move ! (5 ∷ 0 ∷ []) $ join ! $ move ! (0 ∷ 3 ∷ 5 ∷ 1 ∷ []) $ cut (AskX n xn) (raw (Faults 𝓤 H A mem run .pre (toX n xn)) ∷ []) _ (asked-faults n xn (isₙ .1) (looked-in len z n en)) $
+        calls-at ! fm (Faults 𝓤 H A mem run) known₈ (toX n xn) (and-then ! (load ! (from ! (stop !)) (look ! 71 refl)) (and-then ! (load ! (from ! (stop !)) (look ! 47 refl)) (and-then ! (load ! (from ! (stop !)) (look ! 61 refl)) (and-then ! (load ! (from ! (stop !)) (look ! 49 refl)) (and-then ! (load ! (from ! (fld ! refl (stop !))) (look-in ! 59 (sub ! 0 refl (whole !)))) (no-more !)))))) (λ uf.
+        use1 W (later (some (λ (fault : ℕ). ((‵ (flft κ₁ q₁) ⊛ ‵ (flft κ₆ q₆) ⊛ ‵ ftrue) ⊛ ‵ (u8 .own fault (uf ∷ []))) ⊛ raw (ensured 𝓤 H A faults.ended (faults.clauses 𝓤 H A mem run) (κ₁, (κ₆, tt)) (x₁, (xn, (x₆, (n, (z .wires, tt))))) tt fault)))) (id⊢ 𝓤 _) $ await ! tt $ pick ! (λ fault. split ! $
+        move ! (1 ∷ []) $ use1 W (some (λ (zs : Unit {0} × (Unit {0} × (Unit {0} × (Unit {0} × (Unit {0} × Unit {0}))))). ‵ (lasts faults.ended (κ₁, (κ₆, tt)) (x₁, (xn, (x₆, (n, (z .wires, tt))))) zs) ⊛ raw (fact 𝓤 (fault ≡ pairsFault (z .wires) (x₁ .now) (xn .now) (take n (dstsOf (x₆ .now))) (take n (rhssOf (x₆ .now))))))) (id⊢ 𝓤 _) $ pick ! (λ zs. split ! $ move ! (1 ∷ []) $ heard ! (fault ≡ pairsFault (z .wires) (x₁ .now) (xn .now) (take n (dstsOf (x₆ .now))) (take n (rhssOf (x₆ .now)))) (λ ef. drop ! $
+        split ! $ move ! (1 ∷ []) $ peeks ! u8 (Is u8) (shows 𝓤 H A u8) fault (uf ∷ []) (λ isf. land ! (from ! (stop !)) (init ! 46 refl (uint-lawful 𝓤 H A W w8 .typed fault _ isf .0)) $ rewrite ! 46 (λ (v : Val). ‵ (fat fullShare (tyInt w8) l₁₄ 0 v)) (ap only (isf .0)) refl $ drop ! $ split ! $ move ! (1 ∷ []) $ split ! $ move ! (1 ∷ []) $ drop ! $
         -- the two local arrays
-        use0 W (raw (NoDsts 𝓤 H A mem run .pre ((tt, tt, tt, tt, tt), tt))) (blank-dsts 𝓤 H A mem run W) $
-        calls-at ! fm (NoDsts 𝓤 H A mem run) known₁ ((tt, tt, tt, tt, tt), tt) (no-more !) (λ u₁. use1 W (later (some (λ (r : List ℕ). (‵ ftrue ⊛ ‵ (Array u16 1024 .own r (u₁ ∷ []))) ⊛ raw (ensured 𝓤 H A no-dsts.ended (no-dsts.clauses 𝓤 H A mem run) tt tt tt r)))) (id⊢ 𝓤 _) $ await ! tt $ pick ! (λ xs₁. split ! $ move ! (1 ∷ []) $ drop ! $ split ! $ drop ! $
-        peeks ! (Array u16 1024) (Is (Array u16 1024)) (shows 𝓤 H A (Array u16 1024)) xs₁ (u₁ ∷ []) (λ is₁. land ! (from ! (stop !)) (init ! 41 refl (array-lawful 𝓤 H A W u16 (uint-lawful 𝓤 H A W w16) 1024 .typed xs₁ _ is₁ .0)) $
-        assigns ! (of-opd ! (load ! (from ! (stop !)) (look ! 41 refl))) (from ! (stop !)) (init ! 45 refl (array-lawful 𝓤 H A W u16 (uint-lawful 𝓤 H A W w16) 1024 .typed xs₁ _ is₁ .0)) $ move ! (45 ∷ 0 ∷ []) $ use2 W (‵ (InMemory u16 1024 l₁₄ xs₁)) (array-in 𝓤 H A W u16 1024 l₁₄ tt xs₁ u₁) $
-        use0 W (raw (NoRhss 𝓤 H A mem run .pre ((tt, tt, tt, tt, tt), tt))) (blank-rhss 𝓤 H A mem run W) $
-        calls-at ! fm (NoRhss 𝓤 H A mem run) known₂ ((tt, tt, tt, tt, tt), tt) (no-more !) (λ u₂. use1 W (later (some (λ (r : List ℕ). (‵ ftrue ⊛ ‵ (Array u64 1024 .own r (u₂ ∷ []))) ⊛ raw (ensured 𝓤 H A no-rhss.ended (no-rhss.clauses 𝓤 H A mem run) tt tt tt r)))) (id⊢ 𝓤 _) $ await ! tt $ pick ! (λ xs₂. split ! $ move ! (1 ∷ []) $ drop ! $ split ! $ drop ! $
-        peeks ! (Array u64 1024) (Is (Array u64 1024)) (shows 𝓤 H A (Array u64 1024)) xs₂ (u₂ ∷ []) (λ is₂. land ! (from ! (stop !)) (init ! 40 refl (array-lawful 𝓤 H A W u64 (uint-lawful 𝓤 H A W w64) 1024 .typed xs₂ _ is₂ .0)) $
-        assigns ! (of-opd ! (load ! (from ! (stop !)) (look ! 40 refl))) (from ! (stop !)) (init ! 44 refl (array-lawful 𝓤 H A W u64 (uint-lawful 𝓤 H A W w64) 1024 .typed xs₂ _ is₂ .0)) $ move ! (44 ∷ 0 ∷ []) $ use2 W (‵ (InMemory u64 1024 l₁₅ xs₂)) (array-in 𝓤 H A W u64 1024 l₁₅ tt xs₂ u₂) $
+        use0 W (raw (NoDsts 𝓤 H A mem run .pre ((tt, tt, tt, tt, tt), tt))) (blank-dsts 𝓤 H A mem run W) $ calls-at ! fm (NoDsts 𝓤 H A mem run) known₁ ((tt, tt, tt, tt, tt), tt) (no-more !) (λ u₁.
+        use1 W (later (some (λ (xs₁ : List ℕ). (‵ ftrue ⊛ ‵ (Array u16 1024 .own xs₁ (u₁ ∷ []))) ⊛ raw (ensured 𝓤 H A no-dsts.ended (no-dsts.clauses 𝓤 H A mem run) tt tt tt xs₁)))) (id⊢ 𝓤 _) $ await ! tt $ pick ! (λ xs₁. split ! $ move ! (1 ∷ []) $ drop ! $ split ! $ drop ! $ peeks ! (Array u16 1024) (Is (Array u16 1024)) (shows 𝓤 H A (Array u16 1024)) xs₁ (u₁ ∷ []) (λ is₁. land ! (from ! (stop !)) (init ! 41 refl (array-lawful 𝓤 H A W u16 (uint-lawful 𝓤 H A W w16) 1024 .typed xs₁ _ is₁ .0)) $
+        assigns ! (of-opd ! (load ! (from ! (stop !)) (look ! 41 refl))) (from ! (stop !)) (init ! 45 refl (array-lawful 𝓤 H A W u16 (uint-lawful 𝓤 H A W w16) 1024 .typed xs₁ _ is₁ .0)) $ move ! (45 ∷ 0 ∷ []) $ use2 W (‵ (InMemory u16 1024 l₁₅ xs₁)) (array-in 𝓤 H A W u16 1024 l₁₅ tt xs₁ u₁) $
+        use0 W (raw (NoRhss 𝓤 H A mem run .pre ((tt, tt, tt, tt, tt), tt))) (blank-rhss 𝓤 H A mem run W) $ calls-at ! fm (NoRhss 𝓤 H A mem run) known₂ ((tt, tt, tt, tt, tt), tt) (no-more !) (λ u₂.
+        use1 W (later (some (λ (xs₂ : List ℕ). (‵ ftrue ⊛ ‵ (Array u64 1024 .own xs₂ (u₂ ∷ []))) ⊛ raw (ensured 𝓤 H A no-rhss.ended (no-rhss.clauses 𝓤 H A mem run) tt tt tt xs₂)))) (id⊢ 𝓤 _) $ await ! tt $ pick ! (λ xs₂. split ! $ move ! (1 ∷ []) $ drop ! $ split ! $ drop ! $ peeks ! (Array u64 1024) (Is (Array u64 1024)) (shows 𝓤 H A (Array u64 1024)) xs₂ (u₂ ∷ []) (λ is₂. land ! (from ! (stop !)) (init ! 40 refl (array-lawful 𝓤 H A W u64 (uint-lawful 𝓤 H A W w64) 1024 .typed xs₂ _ is₂ .0)) $
+        assigns ! (of-opd ! (load ! (from ! (stop !)) (look ! 40 refl))) (from ! (stop !)) (init ! 44 refl (array-lawful 𝓤 H A W u64 (uint-lawful 𝓤 H A W w64) 1024 .typed xs₂ _ is₂ .0)) $ move ! (44 ∷ 0 ∷ []) $ use2 W (‵ (InMemory u64 1024 l₁₆ xs₂)) (array-in 𝓤 H A W u64 1024 l₁₆ tt xs₂ u₂) $
         -- the records' numbers go to the arrays
         assigns ! (addr ! (from ! (stop !))) (from ! (stop !)) (init ! 36 refl (tt, tt)) $
         assigns ! (agg ! (and-then ! (load ! (from ! (stop !)) (look ! 36 refl)) (and-then ! (big ! (record { fits = fits })) (no-more !)))) (from ! (stop !)) (init ! 34 refl (tt, (tt, (record { fits = fits }, tt)))) $
         assigns ! (addr ! (from ! (stop !))) (from ! (stop !)) (init ! 32 refl (tt, tt)) $
         assigns ! (agg ! (and-then ! (load ! (from ! (stop !)) (look ! 32 refl)) (and-then ! (big ! (record { fits = fits })) (no-more !)))) (from ! (stop !)) (init ! 30 refl (tt, (tt, (record { fits = fits }, tt)))) $
         lft-new ! tt (λ ν₁. lft-new ! tt (λ ν₂.
-        move ! (3 ∷ []) $ use1 W (later (some (λ (δ₁ : GName). ‵ (MutSlice erased (ν₁ ∷ []) u16 .own (record { ptr = (l₁₄, 0); name = δ₁; now = xs₁ }) (sliceVal (l₁₄, 0) 1024 ∷ [])) ⊛ ‵ (flent (ν₁ ∷ []) (Held u16 1024 l₁₄ 0 δ₁))))) (lends-mut 𝓤 H A W u16 1024 l₁₄ erased (ν₁ ∷ []) room16 xs₁) $ await ! tt $ pick ! (λ δ₁. split ! $
-        move ! (4 ∷ []) $ use1 W (later (some (λ (δ₂ : GName). ‵ (MutSlice erased (ν₂ ∷ []) u64 .own (record { ptr = (l₁₅, 0); name = δ₂; now = xs₂ }) (sliceVal (l₁₅, 0) 1024 ∷ [])) ⊛ ‵ (flent (ν₂ ∷ []) (Held u64 1024 l₁₅ 0 δ₂))))) (lends-mut 𝓤 H A W u64 1024 l₁₅ erased (ν₂ ∷ []) room64 xs₂) $ await ! tt $ pick ! (λ δ₂. split ! $
-        nothing ! $ move ! (5 ∷ 0 ∷ []) $ join ! $ move ! (5 ∷ 0 ∷ []) $ join ! $ move ! (5 ∷ 0 ∷ []) $ join ! $ move ! (0 ∷ 6 ∷ 3 ∷ 1 ∷ []) $ cut (AskU m l₁₄ l₁₅ ν₁ ν₂ δ₁ δ₂ xs₁ xs₂) (raw (Unload 𝓤 H A mem run .pre (toU m l₁₄ l₁₅ ν₁ ν₂ δ₁ δ₂ xs₁ xs₂)) ∷ []) _ (asked-unload m l₁₄ l₁₅ ν₁ ν₂ δ₁ δ₂ xs₁ xs₂ (is₅ .1) (held-in len m em .0, in-array m (held-in len m em .1) xs₁ (is₁ .1 .0 .1), in-array m (held-in len m em .1) xs₂ (is₂ .1 .0 .1))) $
-        calls-at ! fm (Unload 𝓤 H A mem run) known₃ (toU m l₁₄ l₁₅ ν₁ ν₂ δ₁ δ₂ xs₁ xs₂) (and-then ! (load ! (from ! (stop !)) (look ! 59 refl)) (and-then ! (load ! (from ! (stop !)) (look ! 49 refl)) (and-then ! (load ! (from ! (stop !)) (look ! 33 refl)) (and-then ! (load ! (from ! (stop !)) (look ! 29 refl)) (no-more !))))) (λ w.
-        use1 W (later (some (λ (r : Unit {0}). ((‵ (flft κ₆ q₆) ⊛ ‵ (flft (ν₁ ∷ []) fullShare) ⊛ ‵ (flft (ν₂ ∷ []) fullShare) ⊛ ‵ ftrue) ⊛ ‵ (unit .own r (w ∷ []))) ⊛ raw (ensured 𝓤 H A unload.ended (unload.clauses 𝓤 H A mem run) (κ₆, (ν₁ ∷ [], (ν₂ ∷ [], tt))) (x₆, (m, (record { ptr = (l₁₄, 0); name = δ₁; now = xs₁ }, (record { ptr = (l₁₅, 0); name = δ₂; now = xs₂ }, tt)))) tt r)))) (id⊢ 𝓤 _) $ await ! tt $ pick ! (λ r₁. split ! $
-        move ! (1 ∷ []) $ use1 W (some (λ (zs : Unit {0} × (Unit {0} × (List ℕ × (List ℕ × Unit {0})))). ‵ (lasts unload.ended (κ₆, (ν₁ ∷ [], (ν₂ ∷ [], tt))) (x₆, (m, (record { ptr = (l₁₄, 0); name = δ₁; now = xs₁ }, (record { ptr = (l₁₅, 0); name = δ₂; now = xs₂ }, tt)))) zs) ⊛ raw (fact 𝓤 ((zs .1 .1 .0 ≡ unloaded xs₁ (dstsOf (x₆ .now)) m) × (zs .1 .1 .1 .0 ≡ unloaded xs₂ (rhssOf (x₆ .now)) m))))) (id⊢ 𝓤 _) $ pick ! (λ zs. split ! $ move ! (1 ∷ []) $ heard ! ((zs .1 .1 .0 ≡ unloaded xs₁ (dstsOf (x₆ .now)) m) × (zs .1 .1 .1 .0 ≡ unloaded xs₂ (rhssOf (x₆ .now)) m)) (λ e.
-        fsplit ! $ drop ! $ fsplit ! $ drop ! $ fsplit ! $ fsplit ! $ move ! (1 ∷ []) $ feqL ! (λ k₁. move ! (1 ∷ []) $ fsplit ! $ fsplit ! $ move ! (1 ∷ []) $ feqL ! (λ k₂. move ! (1 ∷ []) $ drop ! $ move ! (2 ∷ []) $ split ! $ move ! (1 ∷ []) $
-        peeks ! unit (Is unit) (shows 𝓤 H A unit) r₁ (w ∷ []) (λ is₃. land ! (from ! (stop !)) (init ! 40 refl (nothing-lawful 𝓤 H A W .typed r₁ _ is₃ .0)) $ drop ! $ split ! $ move ! (1 ∷ []) $ split ! $ move ! (1 ∷ []) $ split ! $ move ! (1 ∷ []) $ drop ! $
-        move ! (1 ∷ []) $ lft-end ! tt $ move ! (0 ∷ 6 ∷ 4 ∷ []) $ use3 W (later (‵ (InMemory u16 1024 l₁₄ (zs .1 .1 .0)))) (mut-back 𝓤 H A W u16 1024 l₁₄ erased (ν₁ ∷ []) δ₁ (zs .1 .1 .0)) $ await ! tt $
-        move ! (1 ∷ []) $ lft-end ! tt $ move ! (0 ∷ 4 ∷ 3 ∷ []) $ use3 W (later (‵ (InMemory u64 1024 l₁₅ (zs .1 .1 .1 .0)))) (mut-back 𝓤 H A W u64 1024 l₁₅ erased (ν₂ ∷ []) δ₂ (zs .1 .1 .1 .0)) $ await ! tt $
+        move ! (3 ∷ []) $ use1 W (later (some (λ (δ₁ : GName). ‵ (MutSlice erased (ν₁ ∷ []) u16 .own (record { ptr = (l₁₅, 0); name = δ₁; now = xs₁ }) (sliceVal (l₁₅, 0) 1024 ∷ [])) ⊛ ‵ (flent (ν₁ ∷ []) (Held u16 1024 l₁₅ 0 δ₁))))) (lends-mut 𝓤 H A W u16 1024 l₁₅ erased (ν₁ ∷ []) room16 xs₁) $ await ! tt $ pick ! (λ δ₁. split ! $
+        move ! (4 ∷ []) $ use1 W (later (some (λ (δ₂ : GName). ‵ (MutSlice erased (ν₂ ∷ []) u64 .own (record { ptr = (l₁₆, 0); name = δ₂; now = xs₂ }) (sliceVal (l₁₆, 0) 1024 ∷ [])) ⊛ ‵ (flent (ν₂ ∷ []) (Held u64 1024 l₁₆ 0 δ₂))))) (lends-mut 𝓤 H A W u64 1024 l₁₆ erased (ν₂ ∷ []) room64 xs₂) $ await ! tt $ pick ! (λ δ₂. split ! $
+        nothing ! $ move ! (5 ∷ 0 ∷ []) $ join ! $ move ! (5 ∷ 0 ∷ []) $ join ! $ move ! (5 ∷ 0 ∷ []) $ join ! $ move ! (0 ∷ 6 ∷ 3 ∷ 1 ∷ []) $ cut (AskU m l₁₅ l₁₆ ν₁ ν₂ δ₁ δ₂ xs₁ xs₂) (raw (Unload 𝓤 H A mem run .pre (toU m l₁₅ l₁₆ ν₁ ν₂ δ₁ δ₂ xs₁ xs₂)) ∷ []) _ (asked-unload m l₁₅ l₁₆ ν₁ ν₂ δ₁ δ₂ xs₁ xs₂ (isₘ .1) (held-in len m em .0, in-array m (held-in len m em .1) xs₁ (is₁ .1 .0 .1), in-array m (held-in len m em .1) xs₂ (is₂ .1 .0 .1))) $
+        calls-at ! fm (Unload 𝓤 H A mem run) known₃ (toU m l₁₅ l₁₆ ν₁ ν₂ δ₁ δ₂ xs₁ xs₂) (and-then ! (load ! (from ! (stop !)) (look ! 61 refl)) (and-then ! (load ! (from ! (stop !)) (look ! 51 refl)) (and-then ! (load ! (from ! (stop !)) (look ! 33 refl)) (and-then ! (load ! (from ! (stop !)) (look ! 29 refl)) (no-more !))))) (λ uu.
+        use1 W (later (some (λ (r₁ : Unit {0}). ((‵ (flft κ₆ q₆) ⊛ ‵ (flft (ν₁ ∷ []) fullShare) ⊛ ‵ (flft (ν₂ ∷ []) fullShare) ⊛ ‵ ftrue) ⊛ ‵ (unit .own r₁ (uu ∷ []))) ⊛ raw (ensured 𝓤 H A unload.ended (unload.clauses 𝓤 H A mem run) (κ₆, (ν₁ ∷ [], (ν₂ ∷ [], tt))) (x₆, (m, (record { ptr = (l₁₅, 0); name = δ₁; now = xs₁ }, (record { ptr = (l₁₆, 0); name = δ₂; now = xs₂ }, tt)))) tt r₁)))) (id⊢ 𝓤 _) $ await ! tt $ pick ! (λ r₁. split ! $
+        move ! (1 ∷ []) $ use1 W (some (λ (zs : Unit {0} × (Unit {0} × (List ℕ × (List ℕ × Unit {0})))). ‵ (lasts unload.ended (κ₆, (ν₁ ∷ [], (ν₂ ∷ [], tt))) (x₆, (m, (record { ptr = (l₁₅, 0); name = δ₁; now = xs₁ }, (record { ptr = (l₁₆, 0); name = δ₂; now = xs₂ }, tt)))) zs) ⊛ raw (fact 𝓤 ((zs .1 .1 .0 ≡ unloaded xs₁ (dstsOf (x₆ .now)) m) × (zs .1 .1 .1 .0 ≡ unloaded xs₂ (rhssOf (x₆ .now)) m))))) (id⊢ 𝓤 _) $ pick ! (λ zs. split ! $ move ! (1 ∷ []) $ heard ! ((zs .1 .1 .0 ≡ unloaded xs₁ (dstsOf (x₆ .now)) m) × (zs .1 .1 .1 .0 ≡ unloaded xs₂ (rhssOf (x₆ .now)) m)) (λ e.
+        fsplit ! $ drop ! $ fsplit ! $ drop ! $ fsplit ! $ fsplit ! $ move ! (1 ∷ []) $ feqL ! (λ j₁. move ! (1 ∷ []) $ fsplit ! $ fsplit ! $ move ! (1 ∷ []) $ feqL ! (λ j₂. move ! (1 ∷ []) $ drop ! $
+        move ! (2 ∷ []) $ split ! $ move ! (1 ∷ []) $ peeks ! unit (Is unit) (shows 𝓤 H A unit) r₁ (uu ∷ []) (λ is₃. land ! (from ! (stop !)) (init ! 40 refl (nothing-lawful 𝓤 H A W .typed r₁ _ is₃ .0)) $ drop ! $ split ! $ move ! (1 ∷ []) $ split ! $ move ! (1 ∷ []) $ split ! $ move ! (1 ∷ []) $ drop ! $
+        move ! (1 ∷ []) $ lft-end ! tt $ move ! (0 ∷ 6 ∷ 4 ∷ []) $ use3 W (later (‵ (InMemory u16 1024 l₁₅ (zs .1 .1 .0)))) (mut-back 𝓤 H A W u16 1024 l₁₅ erased (ν₁ ∷ []) δ₁ (zs .1 .1 .0)) $ await ! tt $
+        move ! (1 ∷ []) $ lft-end ! tt $ move ! (0 ∷ 4 ∷ 3 ∷ []) $ use3 W (later (‵ (InMemory u64 1024 l₁₆ (zs .1 .1 .1 .0)))) (mut-back 𝓤 H A W u64 1024 l₁₆ erased (ν₂ ∷ []) δ₂ (zs .1 .1 .1 .0)) $ await ! tt $
         -- filling back over the numbers
         assigns ! (addr ! (from ! (stop !))) (from ! (stop !)) (init ! 27 refl (tt, tt)) $
         assigns ! (agg ! (and-then ! (load ! (from ! (stop !)) (look ! 27 refl)) (and-then ! (big ! (record { fits = fits })) (no-more !)))) (from ! (stop !)) (init ! 25 refl (tt, (tt, (record { fits = fits }, tt)))) $
         assigns ! (addr ! (from ! (stop !))) (from ! (stop !)) (init ! 23 refl (tt, tt)) $
         assigns ! (agg ! (and-then ! (load ! (from ! (stop !)) (look ! 23 refl)) (and-then ! (big ! (record { fits = fits })) (no-more !)))) (from ! (stop !)) (init ! 21 refl (tt, (tt, (record { fits = fits }, tt)))) $
-        assigns ! (addr ! (from ! (fld ! refl (hop ! (look-in ! 53 (sub ! 0 refl (whole !))) (stop !))))) (from ! (stop !)) (init ! 19 refl (tt, tt)) $
-        assigns ! (agg ! (and-then ! (load ! (from ! (stop !)) (look ! 19 refl)) (and-then ! (load ! (from ! (fld ! refl (stop !))) (look-in ! 53 (sub ! 1 refl (whole !)))) (no-more !)))) (from ! (stop !)) (init ! 17 refl (tt, (tt, (record { fits = room₉ .0 }, tt)))) $
+        assigns ! (addr ! (from ! (fld ! refl (hop ! (look-in ! 55 (sub ! 0 refl (whole !))) (stop !))))) (from ! (stop !)) (init ! 19 refl (tt, tt)) $
+        assigns ! (agg ! (and-then ! (load ! (from ! (stop !)) (look ! 19 refl)) (and-then ! (load ! (from ! (fld ! refl (stop !))) (look-in ! 55 (sub ! 1 refl (whole !)))) (no-more !)))) (from ! (stop !)) (init ! 17 refl (tt, (tt, (record { fits = room₉ .0 }, tt)))) $
         lft-new ! tt (λ ν₃. lft-new ! tt (λ ν₄.
-        move ! (3 ∷ []) $ use1 W (later (some (λ (δ₃ : GName). ‵ (ShrSlice erased (ν₃ ∷ []) u16 .own (record { ptr = (l₁₄, 0); name = δ₃; now = (zs .1 .1 .0) }) (sliceVal (l₁₄, 0) 1024 ∷ [])) ⊛ ‵ (flent (ν₃ ∷ []) (InMemory u16 1024 l₁₄ (zs .1 .1 .0)))))) (lends-shr 𝓤 H A W u16 1024 l₁₄ erased (ν₃ ∷ []) room16 (zs .1 .1 .0)) $ await ! tt $ pick ! (λ δ₃. split ! $
-        move ! (4 ∷ []) $ use1 W (later (some (λ (δ₄ : GName). ‵ (ShrSlice erased (ν₄ ∷ []) u64 .own (record { ptr = (l₁₅, 0); name = δ₄; now = (zs .1 .1 .1 .0) }) (sliceVal (l₁₅, 0) 1024 ∷ [])) ⊛ ‵ (flent (ν₄ ∷ []) (InMemory u64 1024 l₁₅ (zs .1 .1 .1 .0)))))) (lends-shr 𝓤 H A W u64 1024 l₁₅ erased (ν₄ ∷ []) room64 (zs .1 .1 .1 .0)) $ await ! tt $ pick ! (λ δ₄. split ! $
-        nothing ! $ move ! (16 ∷ 0 ∷ []) $ join ! $ move ! (16 ∷ 0 ∷ []) $ join ! $ move ! (5 ∷ 0 ∷ []) $ join ! $ move ! (5 ∷ 0 ∷ []) $ join ! $ move ! (14 ∷ 0 ∷ []) $ join ! $ move ! (14 ∷ 0 ∷ []) $ join ! $ move ! (14 ∷ 0 ∷ []) $ join ! $ move ! (14 ∷ 0 ∷ []) $ join ! $ move ! (6 ∷ 0 ∷ []) $ join ! $ move ! (0 ∷ 6 ∷ 12 ∷ 11 ∷ 10 ∷ 9 ∷ 3 ∷ 1 ∷ 8 ∷ 7 ∷ []) $ cut (AskF m n fault l₁₄ l₁₅ ν₃ ν₄ δ₃ δ₄ (zs .1 .1 .0) (zs .1 .1 .1 .0)) (raw (Fill 𝓤 H A mem run .pre (toF m n fault l₁₄ l₁₅ ν₃ ν₄ δ₃ δ₄ (zs .1 .1 .0) (zs .1 .1 .1 .0))) ∷ []) _ (asked-fill m n fault l₁₄ l₁₅ ν₃ ν₄ δ₃ δ₄ (zs .1 .1 .0) (zs .1 .1 .1 .0) (is₅ .1) (is₆ .1) (is₇ .1) (in-array m (held-in len m em .1) (zs .1 .1 .0) (k₁ ∙ is₁ .1 .0 .1), in-array m (held-in len m em .1) (zs .1 .1 .1 .0) (k₂ ∙ is₂ .1 .0 .1))) $
-        calls-at ! fm (Fill 𝓤 H A mem run) known₄ (toF m n fault l₁₄ l₁₅ ν₃ ν₄ δ₃ δ₄ (zs .1 .1 .0) (zs .1 .1 .1 .0)) (and-then ! (load ! (from ! (stop !)) (look ! 56 refl)) (and-then ! (load ! (from ! (stop !)) (look ! 54 refl)) (and-then ! (load ! (from ! (stop !)) (look ! 52 refl)) (and-then ! (load ! (from ! (stop !)) (look ! 50 refl)) (and-then ! (load ! (from ! (stop !)) (look ! 48 refl)) (and-then ! (load ! (from ! (stop !)) (look ! 12 refl)) (and-then ! (load ! (from ! (stop !)) (look ! 8 refl)) (and-then ! (load ! (from ! (stop !)) (look ! 36 refl)) (and-then ! (load ! (from ! (stop !)) (look ! 34 refl)) (and-then ! (load ! (from ! (stop !)) (look ! 32 refl)) (and-then ! (load ! (from ! (stop !)) (look ! 44 refl)) (and-then ! (load ! (from ! (stop !)) (look ! 42 refl)) (and-then ! (load ! (from ! (stop !)) (look ! 4 refl)) (no-more !)))))))))))))) (λ u₃.
-        use1 W (later (some (λ (r : ℕ). ((‵ (flft κ₁ q₁) ⊛ ‵ (flft κ₂ q₂) ⊛ ‵ (flft κ₃ q₃) ⊛ ‵ (flft κ₄ q₄) ⊛ ‵ (flft κ₅ q₅) ⊛ ‵ (flft (ν₃ ∷ []) fullShare) ⊛ ‵ (flft (ν₄ ∷ []) fullShare) ⊛ ‵ (flft κ₈ q₈) ⊛ ‵ (flft κ₉ q₉) ⊛ ‵ ftrue) ⊛ ‵ (u8 .own r (u₃ ∷ []))) ⊛ raw (ensured 𝓤 H A fill.ended (fill.clauses 𝓤 H A mem run) (κ₁, (κ₂, (κ₃, (κ₄, (κ₅, (ν₃ ∷ [], (ν₄ ∷ [], (κ₈, (κ₉, tt))))))))) (x₁, (x₂, (x₃, (x₄, (x₅, (record { ptr = (l₁₄, 0); name = δ₃; now = (zs .1 .1 .0) }, (record { ptr = (l₁₅, 0); name = δ₄; now = (zs .1 .1 .1 .0) }, (m, (n, (fault, (z, (x₈, (x₉, tt))))))))))))) tt r)))) (id⊢ 𝓤 _) $ await ! tt $ pick ! (λ r. split ! $
-        move ! (1 ∷ []) $ use1 W (some (λ (ws : Unit {0} × (Unit {0} × (Unit {0} × (Unit {0} × (Unit {0} × (Unit {0} × (Unit {0} × (Unit {0} × (Unit {0} × (Unit {0} × (Unit {0} × (Unit {0} × (List ℕ × Unit {0}))))))))))))). ‵ (lasts fill.ended (κ₁, (κ₂, (κ₃, (κ₄, (κ₅, (ν₃ ∷ [], (ν₄ ∷ [], (κ₈, (κ₉, tt))))))))) (x₁, (x₂, (x₃, (x₄, (x₅, (record { ptr = (l₁₄, 0); name = δ₃; now = (zs .1 .1 .0) }, (record { ptr = (l₁₅, 0); name = δ₄; now = (zs .1 .1 .1 .0) }, (m, (n, (fault, (z, (x₈, (x₉, tt))))))))))))) ws) ⊛ raw (fact 𝓤 (FillsFirst n fault z (stores (x₁ .now) [] (x₂ .now) (x₃ .now) (x₄ .now) (x₅ .now) (take m (zs .1 .1 .0)) (take m (zs .1 .1 .1 .0))) (x₈ .now) (x₉ .now) (ws .1 .1 .1 .1 .1 .1 .1 .1 .1 .1 .1 .1 .0) r)))) (id⊢ 𝓤 _) $ pick ! (λ ws. split ! $ move ! (1 ∷ []) $ heard ! (FillsFirst n fault z (stores (x₁ .now) [] (x₂ .now) (x₃ .now) (x₄ .now) (x₅ .now) (take m (zs .1 .1 .0)) (take m (zs .1 .1 .1 .0))) (x₈ .now) (x₉ .now) (ws .1 .1 .1 .1 .1 .1 .1 .1 .1 .1 .1 .1 .0) r) (λ f.
-        fsplit ! $ drop ! $ fsplit ! $ drop ! $ fsplit ! $ drop ! $ fsplit ! $ drop ! $ fsplit ! $ drop ! $ fsplit ! $ drop ! $ fsplit ! $ drop ! $ fsplit ! $ drop ! $ fsplit ! $ drop ! $ fsplit ! $ drop ! $ fsplit ! $ drop ! $ fsplit ! $ drop ! $ fsplit ! $ fsplit ! $ move ! (1 ∷ []) $ feqL ! (λ k. move ! (1 ∷ []) $ drop ! $
-        move ! (1 ∷ []) $ split ! $ move ! (1 ∷ []) $ peeks ! u8 (Is u8) (shows 𝓤 H A u8) r (u₃ ∷ []) (λ is₄. land ! (from ! (stop !)) (init ! 60 refl (uint-lawful 𝓤 H A W w8 .typed r _ is₄ .0)) $ rewrite ! 60 (λ (v : Val). ‵ (fat fullShare (tyInt w8) l₀ 0 v)) (ap only (is₄ .0)) refl $ drop ! $
-        split ! $ move ! (1 ∷ []) $ split ! $ move ! (1 ∷ []) $ split ! $ move ! (1 ∷ []) $ split ! $ move ! (1 ∷ []) $ split ! $ move ! (1 ∷ []) $ split ! $ move ! (1 ∷ []) $ split ! $ move ! (1 ∷ []) $ split ! $ move ! (1 ∷ []) $ split ! $ move ! (1 ∷ []) $ drop ! $
+        move ! (3 ∷ []) $ use1 W (later (some (λ (δ₃ : GName). ‵ (ShrSlice erased (ν₃ ∷ []) u16 .own (record { ptr = (l₁₅, 0); name = δ₃; now = (zs .1 .1 .0) }) (sliceVal (l₁₅, 0) 1024 ∷ [])) ⊛ ‵ (flent (ν₃ ∷ []) (InMemory u16 1024 l₁₅ (zs .1 .1 .0)))))) (lends-shr 𝓤 H A W u16 1024 l₁₅ erased (ν₃ ∷ []) room16 (zs .1 .1 .0)) $ await ! tt $ pick ! (λ δ₃. split ! $
+        move ! (4 ∷ []) $ use1 W (later (some (λ (δ₄ : GName). ‵ (ShrSlice erased (ν₄ ∷ []) u64 .own (record { ptr = (l₁₆, 0); name = δ₄; now = (zs .1 .1 .1 .0) }) (sliceVal (l₁₆, 0) 1024 ∷ [])) ⊛ ‵ (flent (ν₄ ∷ []) (InMemory u64 1024 l₁₆ (zs .1 .1 .1 .0)))))) (lends-shr 𝓤 H A W u64 1024 l₁₆ erased (ν₄ ∷ []) room64 (zs .1 .1 .1 .0)) $ await ! tt $ pick ! (λ δ₄. split ! $
+        nothing ! $ move ! (16 ∷ 0 ∷ []) $ join ! $ move ! (16 ∷ 0 ∷ []) $ join ! $ move ! (5 ∷ 0 ∷ []) $ join ! $ move ! (5 ∷ 0 ∷ []) $ join ! $ move ! (14 ∷ 0 ∷ []) $ join ! $ move ! (14 ∷ 0 ∷ []) $ join ! $ move ! (14 ∷ 0 ∷ []) $ join ! $ move ! (14 ∷ 0 ∷ []) $ join ! $ move ! (6 ∷ 0 ∷ []) $ join ! $ move ! (0 ∷ 6 ∷ 12 ∷ 11 ∷ 10 ∷ 9 ∷ 3 ∷ 1 ∷ 8 ∷ 7 ∷ []) $ cut (AskF m n fault l₁₅ l₁₆ ν₃ ν₄ δ₃ δ₄ (zs .1 .1 .0) (zs .1 .1 .1 .0)) (raw (Fill 𝓤 H A mem run .pre (toF m n fault l₁₅ l₁₆ ν₃ ν₄ δ₃ δ₄ (zs .1 .1 .0) (zs .1 .1 .1 .0))) ∷ []) _ (asked-first m n fault l₁₅ l₁₆ ν₃ ν₄ δ₃ δ₄ (zs .1 .1 .0) (zs .1 .1 .1 .0) (isₘ .1) (isₙ .1) (isf .1) (in-array m (held-in len m em .1) (zs .1 .1 .0) (j₁ ∙ is₁ .1 .0 .1), in-array m (held-in len m em .1) (zs .1 .1 .1 .0) (j₂ ∙ is₂ .1 .0 .1))) $
+        calls-at ! fm (Fill 𝓤 H A mem run) known₄ (toF m n fault l₁₅ l₁₆ ν₃ ν₄ δ₃ δ₄ (zs .1 .1 .0) (zs .1 .1 .1 .0)) (and-then ! (load ! (from ! (stop !)) (look ! 58 refl)) (and-then ! (load ! (from ! (stop !)) (look ! 56 refl)) (and-then ! (load ! (from ! (stop !)) (look ! 54 refl)) (and-then ! (load ! (from ! (stop !)) (look ! 52 refl)) (and-then ! (load ! (from ! (stop !)) (look ! 50 refl)) (and-then ! (load ! (from ! (stop !)) (look ! 12 refl)) (and-then ! (load ! (from ! (stop !)) (look ! 8 refl)) (and-then ! (load ! (from ! (stop !)) (look ! 38 refl)) (and-then ! (load ! (from ! (stop !)) (look ! 36 refl)) (and-then ! (load ! (from ! (stop !)) (look ! 32 refl)) (and-then ! (load ! (from ! (stop !)) (look ! 46 refl)) (and-then ! (load ! (from ! (stop !)) (look ! 44 refl)) (and-then ! (load ! (from ! (stop !)) (look ! 4 refl)) (no-more !)))))))))))))) (λ u.
+        use1 W (later (some (λ (r : ℕ). ((‵ (flft κ₁ q₁) ⊛ ‵ (flft κ₂ q₂) ⊛ ‵ (flft κ₃ q₃) ⊛ ‵ (flft κ₄ q₄) ⊛ ‵ (flft κ₅ q₅) ⊛ ‵ (flft (ν₃ ∷ []) fullShare) ⊛ ‵ (flft (ν₄ ∷ []) fullShare) ⊛ ‵ (flft κ₈ q₈) ⊛ ‵ (flft κ₉ q₉) ⊛ ‵ ftrue) ⊛ ‵ (u8 .own r (u ∷ []))) ⊛ raw (ensured 𝓤 H A fill.ended (fill.clauses 𝓤 H A mem run) (κ₁, (κ₂, (κ₃, (κ₄, (κ₅, (ν₃ ∷ [], (ν₄ ∷ [], (κ₈, (κ₉, tt))))))))) (x₁, (x₂, (x₃, (x₄, (x₅, (record { ptr = (l₁₅, 0); name = δ₃; now = (zs .1 .1 .0) }, (record { ptr = (l₁₆, 0); name = δ₄; now = (zs .1 .1 .1 .0) }, (m, (n, (fault, (z, (x₈, (x₉, tt))))))))))))) tt r)))) (id⊢ 𝓤 _) $ await ! tt $ pick ! (λ r. split ! $
+        move ! (1 ∷ []) $ use1 W (some (λ (ws : Unit {0} × (Unit {0} × (Unit {0} × (Unit {0} × (Unit {0} × (Unit {0} × (Unit {0} × (Unit {0} × (Unit {0} × (Unit {0} × (Unit {0} × (Unit {0} × (List ℕ × Unit {0}))))))))))))). ‵ (lasts fill.ended (κ₁, (κ₂, (κ₃, (κ₄, (κ₅, (ν₃ ∷ [], (ν₄ ∷ [], (κ₈, (κ₉, tt))))))))) (x₁, (x₂, (x₃, (x₄, (x₅, (record { ptr = (l₁₅, 0); name = δ₃; now = (zs .1 .1 .0) }, (record { ptr = (l₁₆, 0); name = δ₄; now = (zs .1 .1 .1 .0) }, (m, (n, (fault, (z, (x₈, (x₉, tt))))))))))))) ws) ⊛ raw (fact 𝓤 (FillsFirst n fault z (stores (x₁ .now) [] (x₂ .now) (x₃ .now) (x₄ .now) (x₅ .now) (take m (zs .1 .1 .0)) (take m (zs .1 .1 .1 .0))) (x₈ .now) (x₉ .now) (ws .1 .1 .1 .1 .1 .1 .1 .1 .1 .1 .1 .1 .0) r)))) (id⊢ 𝓤 _) $ pick ! (λ ws. split ! $ move ! (1 ∷ []) $ heard ! (FillsFirst n fault z (stores (x₁ .now) [] (x₂ .now) (x₃ .now) (x₄ .now) (x₅ .now) (take m (zs .1 .1 .0)) (take m (zs .1 .1 .1 .0))) (x₈ .now) (x₉ .now) (ws .1 .1 .1 .1 .1 .1 .1 .1 .1 .1 .1 .1 .0) r) (λ f.
+        fsplit ! $ drop ! $ fsplit ! $ drop ! $ fsplit ! $ drop ! $ fsplit ! $ drop ! $ fsplit ! $ drop ! $ fsplit ! $ drop ! $ fsplit ! $ drop ! $ fsplit ! $ drop ! $ fsplit ! $ drop ! $ fsplit ! $ drop ! $ fsplit ! $ drop ! $ fsplit ! $ drop ! $ fsplit ! $ fsplit ! $ move ! (1 ∷ []) $ feqL ! (λ k₉. move ! (1 ∷ []) $ drop ! $
+        move ! (1 ∷ []) $ split ! $ move ! (1 ∷ []) $ peeks ! u8 (Is u8) (shows 𝓤 H A u8) r (u ∷ []) (λ is₄. land ! (from ! (stop !)) (init ! 62 refl (uint-lawful 𝓤 H A W w8 .typed r _ is₄ .0)) $ rewrite ! 62 (λ (v : Val). ‵ (fat fullShare (tyInt w8) l₀ 0 v)) (ap only (is₄ .0)) refl $ drop ! $ split ! $ move ! (1 ∷ []) $ split ! $ move ! (1 ∷ []) $ split ! $ move ! (1 ∷ []) $ split ! $ move ! (1 ∷ []) $ split ! $ move ! (1 ∷ []) $ split ! $ move ! (1 ∷ []) $ split ! $ move ! (1 ∷ []) $ split ! $ move ! (1 ∷ []) $ split ! $ move ! (1 ∷ []) $ drop ! $
         -- the arrays come back, and all is given up
         move ! (3 ∷ []) $ lft-end ! tt $ move ! (0 ∷ 11 ∷ []) $ lent-back ! tt $ move ! (3 ∷ []) $ lft-end ! tt $ move ! (0 ∷ 10 ∷ []) $ lent-back ! tt $
-        move ! (1 ∷ []) $ use1 W (‵ (froom (tyArray (tyInt w16) 1024) l₁₄ 0)) (array-room 𝓤 H A W u16 1024 l₁₄ (zs .1 .1 .0)) $ move ! (1 ∷ []) $ use1 W (‵ (froom (tyArray (tyInt w64) 1024) l₁₅ 0)) (array-room 𝓤 H A W u64 1024 l₁₅ (zs .1 .1 .1 .0)) $
-        returns ! (look ! 65 refl) $ forget ! 65 refl $ forget ! 63 refl $ forget ! 61 refl $ forget ! 59 refl $ forget ! 57 refl $ forget ! 55 refl $ forget ! 53 refl $ forget ! 51 refl $ forget ! 49 refl $ forget ! 47 refl $ forget ! 45 refl $ forget ! 43 refl $ forget ! 41 refl $ forget ! 39 refl $ forget ! 35 refl $ forget ! 33 refl $ forget ! 31 refl $ forget ! 29 refl $ forget ! 27 refl $ forget ! 25 refl $ forget ! 23 refl $ forget ! 21 refl $ forget ! 19 refl $ forget ! 17 refl $ forget ! 15 refl $ forget ! 13 refl $ forget ! 11 refl $
-        move ! (65 ∷ 66 ∷ []) $ free1 ! $ move ! (63 ∷ 64 ∷ []) $ free1 ! $ move ! (61 ∷ 62 ∷ []) $ free1 ! $ move ! (59 ∷ 60 ∷ []) $ free1 ! $ move ! (57 ∷ 58 ∷ []) $ free1 ! $ move ! (55 ∷ 56 ∷ []) $ free1 ! $ move ! (53 ∷ 54 ∷ []) $ free1 ! $ move ! (51 ∷ 52 ∷ []) $ free1 ! $ move ! (49 ∷ 50 ∷ []) $ free1 ! $ move ! (47 ∷ 48 ∷ []) $ free1 ! $ move ! (45 ∷ 46 ∷ []) $ free1 ! $ move ! (43 ∷ 44 ∷ []) $ free1 ! $ move ! (41 ∷ 42 ∷ []) $ free1 ! $
-        move ! (39 ∷ 40 ∷ []) $ free1 ! $ move ! (1 ∷ 38 ∷ []) $ free1 ! $ move ! (0 ∷ 36 ∷ []) $ free1 ! $ move ! (33 ∷ 34 ∷ []) $ free1 ! $ move ! (31 ∷ 32 ∷ []) $ free1 ! $ move ! (29 ∷ 30 ∷ []) $ free1 ! $ move ! (27 ∷ 28 ∷ []) $ free1 ! $ move ! (25 ∷ 26 ∷ []) $ free1 ! $ move ! (23 ∷ 24 ∷ []) $ free1 ! $ move ! (21 ∷ 22 ∷ []) $ free1 ! $ move ! (19 ∷ 20 ∷ []) $ free1 ! $ move ! (17 ∷ 18 ∷ []) $ free1 ! $ move ! (15 ∷ 16 ∷ []) $ free1 ! $
-        move ! (13 ∷ 14 ∷ []) $ free1 ! $ move ! (11 ∷ 12 ∷ []) $ free1 ! $ move ! (9 ∷ 10 ∷ []) $ free1 ! $ free0 ! $
-        nothing ! $ move ! (1 ∷ 0 ∷ []) $ join ! $ move ! (1 ∷ 0 ∷ []) $ join ! $ move ! (7 ∷ 0 ∷ []) $ join ! $ move ! (1 ∷ 0 ∷ []) $ join ! $ move ! (1 ∷ 0 ∷ []) $ join ! $ move ! (1 ∷ 0 ∷ []) $ join ! $ move ! (1 ∷ 0 ∷ []) $ join ! $ move ! (1 ∷ 0 ∷ []) $ join ! $ keep ! (0 ∷ 1 ∷ []) $ by ! (exits r (ws .1 .1 .1 .1 .1 .1 .1 .1 .1 .1 .1 .1 .0) (is₄ .1) (fills-records z (x₁ .now) (x₂ .now) (x₃ .now) (x₄ .now) (x₅ .now) (x₆ .now) (take m (zs .1 .1 .0)) (take m (zs .1 .1 .1 .0)) m n fault em en ef (ap (take m) (e .0) ∙ front-some xs₁ (dstsOf (x₆ .now)) m (in-numbers (λ (d : Definition). d .dst) m (held-in len m em .0)) (in-array m (held-in len m em .1) xs₁ (is₁ .1 .0 .1))) (ap (take m) (e .1) ∙ front-some xs₂ (rhssOf (x₆ .now)) m (in-numbers (λ (d : Definition). d .rhs) m (held-in len m em .0)) (in-array m (held-in len m em .1) xs₂ (is₂ .1 .0 .1))) (x₈ .now) (x₉ .now) (ws .1 .1 .1 .1 .1 .1 .1 .1 .1 .1 .1 .1 .0) r f) k))))))))))))))))))))))))))))))))))))))))))))))))))))))))))))))))))))))))
+        move ! (1 ∷ []) $ use1 W (‵ (froom (tyArray (tyInt w16) 1024) l₁₅ 0)) (array-room 𝓤 H A W u16 1024 l₁₅ (zs .1 .1 .0)) $ move ! (1 ∷ []) $ use1 W (‵ (froom (tyArray (tyInt w64) 1024) l₁₆ 0)) (array-room 𝓤 H A W u64 1024 l₁₆ (zs .1 .1 .1 .0)) $
+        returns ! (look ! 67 refl) $ forget ! 67 refl $ forget ! 65 refl $ forget ! 63 refl $ forget ! 61 refl $ forget ! 59 refl $ forget ! 57 refl $ forget ! 55 refl $ forget ! 53 refl $ forget ! 51 refl $ forget ! 49 refl $ forget ! 47 refl $ forget ! 45 refl $ forget ! 43 refl $ forget ! 41 refl $ forget ! 39 refl $ forget ! 35 refl $ forget ! 33 refl $ forget ! 31 refl $ forget ! 29 refl $ forget ! 27 refl $ forget ! 25 refl $ forget ! 23 refl $ forget ! 21 refl $ forget ! 19 refl $ forget ! 17 refl $ forget ! 15 refl $ forget ! 13 refl $ forget ! 11 refl $
+        move ! (67 ∷ 68 ∷ []) $ free1 ! $ move ! (65 ∷ 66 ∷ []) $ free1 ! $ move ! (63 ∷ 64 ∷ []) $ free1 ! $ move ! (61 ∷ 62 ∷ []) $ free1 ! $ move ! (59 ∷ 60 ∷ []) $ free1 ! $ move ! (57 ∷ 58 ∷ []) $ free1 ! $ move ! (55 ∷ 56 ∷ []) $ free1 ! $ move ! (53 ∷ 54 ∷ []) $ free1 ! $ move ! (51 ∷ 52 ∷ []) $ free1 ! $ move ! (49 ∷ 50 ∷ []) $ free1 ! $ move ! (47 ∷ 48 ∷ []) $ free1 ! $ move ! (45 ∷ 46 ∷ []) $ free1 ! $ move ! (43 ∷ 44 ∷ []) $ free1 ! $ move ! (41 ∷ 42 ∷ []) $ free1 ! $ move ! (39 ∷ 40 ∷ []) $ free1 ! $ move ! (1 ∷ 38 ∷ []) $ free1 ! $ move ! (0 ∷ 36 ∷ []) $ free1 ! $ move ! (33 ∷ 34 ∷ []) $ free1 ! $ move ! (31 ∷ 32 ∷ []) $ free1 ! $ move ! (29 ∷ 30 ∷ []) $ free1 ! $ move ! (27 ∷ 28 ∷ []) $ free1 ! $ move ! (25 ∷ 26 ∷ []) $ free1 ! $ move ! (23 ∷ 24 ∷ []) $ free1 ! $ move ! (21 ∷ 22 ∷ []) $ free1 ! $ move ! (19 ∷ 20 ∷ []) $ free1 ! $ move ! (17 ∷ 18 ∷ []) $ free1 ! $ move ! (15 ∷ 16 ∷ []) $ free1 ! $ move ! (13 ∷ 14 ∷ []) $ free1 ! $ move ! (11 ∷ 12 ∷ []) $ free1 ! $ move ! (9 ∷ 10 ∷ []) $ free1 ! $ free0 ! $
+        nothing ! $ move ! (1 ∷ 0 ∷ []) $ join ! $ move ! (1 ∷ 0 ∷ []) $ join ! $ move ! (7 ∷ 0 ∷ []) $ join ! $ move ! (1 ∷ 0 ∷ []) $ join ! $ move ! (1 ∷ 0 ∷ []) $ join ! $ move ! (1 ∷ 0 ∷ []) $ join ! $ move ! (1 ∷ 0 ∷ []) $ join ! $ move ! (1 ∷ 0 ∷ []) $ join ! $ keep ! (0 ∷ 1 ∷ []) $
+        by ! (exits r (ws .1 .1 .1 .1 .1 .1 .1 .1 .1 .1 .1 .1 .0) (is₄ .1) k₉
+        (fills-records z (x₁ .now) (x₂ .now) (x₃ .now) (x₄ .now) (x₅ .now) (x₆ .now) (take m (zs .1 .1 .0)) (take m (zs .1 .1 .1 .0)) m n fault em en (ef ∙ ap (λ (l : List ℕ). pairsFault (z .wires) (x₁ .now) l (take n (dstsOf (x₆ .now))) (take n (rhssOf (x₆ .now)))) nn)
+        (ap (take m) (e .0) ∙ front-some xs₁ (dstsOf (x₆ .now)) m (in-numbers (λ (d : Definition). d .dst) m (held-in len m em .0)) (in-array m (held-in len m em .1) xs₁ (is₁ .1 .0 .1)))
+        (ap (take m) (e .1) ∙ front-some xs₂ (rhssOf (x₆ .now)) m (in-numbers (λ (d : Definition). d .rhs) m (held-in len m em .0)) (in-array m (held-in len m em .1) xs₂ (is₂ .1 .0 .1)))
+        (x₈ .now) (x₉ .now) (ws .1 .1 .1 .1 .1 .1 .1 .1 .1 .1 .1 .1 .0) r f)))))))))))))))))))))))))))))))))))))))))))))))))))))))))))))))))))))))))))))))
 
 module _ {M : Type 1} (𝓤 : URA M) (H : Heap 𝓤) (A : Atoms 𝓤) (W : Given 𝓤 H A) (mem : Memory → SProp 𝓤) (run : Routine → Fun 𝓤) where
-  entry-walks : (C : Calls 𝓤 H) (Λ : Loops 𝓤 H) → FmC 𝓤 H (W .laws) C → Triple 𝓤 (C #records·no-dsts) (NoDsts 𝓤 H A mem run) → Triple 𝓤 (C #records·no-rhss) (NoRhss 𝓤 H A mem run) → Triple 𝓤 (C #records·unload) (Unload 𝓤 H A mem run) → Triple 𝓤 (C #records·fill-back-first) (Fill 𝓤 H A mem run) → Triple 𝓤 (C #records·held) (Holds 𝓤 H A mem run) → Triple 𝓤 (C #records·looked) (Looks 𝓤 H A mem run) → Triple 𝓤 (C #records·records-fault) (Faults 𝓤 H A mem run)
+  entry-walks : (C : Calls 𝓤 H) (Λ : Loops 𝓤 H) → FmC 𝓤 H (W .laws) C → Triple 𝓤 (C #records·no-dsts) (NoDsts 𝓤 H A mem run) → Triple 𝓤 (C #records·no-rhss) (NoRhss 𝓤 H A mem run) → Triple 𝓤 (C #records·unload) (Unload 𝓤 H A mem run) → Triple 𝓤 (C #records·fill-back-first) (Fill 𝓤 H A mem run) → Triple 𝓤 (C #records·held) (Holds 𝓤 H A mem run) → Triple 𝓤 (C #records·looked) (Looks 𝓤 H A mem run) → Triple 𝓤 (C #records·no-terms) (NoTerms 𝓤 H A mem run) → Triple 𝓤 (C #records·records-fault) (Faults 𝓤 H A mem run)
       → Walks 𝓤 H A entry.ended stayed (WpFn 𝓤 H C Λ code.function) (entry.clauses 𝓤 H A mem run)
-  entry-walks C Λ fm known₁ known₂ known₃ known₄ known₅ known₆ known₇ = walked 𝓤 H A entry.ended stayed (entry.clauses 𝓤 H A mem run) (WpFn 𝓤 H C Λ code.function)
+  entry-walks C Λ fm known₁ known₂ known₃ known₄ known₅ known₆ known₇ known₈ = walked 𝓤 H A entry.ended stayed (entry.clauses 𝓤 H A mem run) (WpFn 𝓤 H C Λ code.function)
       (λ κs. (slice-vals, (slice-vals, (slice-vals, (slice-vals, (slice-vals, (slice-vals, (LL.vals Z.the-type Z′.the-laws, (slice-vals, (slice-vals, tt))))))))))
       (λ κs. (shr-slice-tells (named 0) (κs .0) u64, (shr-slice-tells (named 1) (κs .1 .0) u64, (shr-slice-tells (named 2) (κs .1 .1 .0) u64, (shr-slice-tells (named 3) (κs .1 .1 .1 .0) u64, (shr-slice-tells (named 4) (κs .1 .1 .1 .1 .0) u64, (shr-slice-tells (named 5) (κs .1 .1 .1 .1 .1 .0) R, (LL.tells Z.the-type Z′.the-laws, (shr-slice-tells (named 6) (κs .1 .1 .1 .1 .1 .1 .0) u8, (mut-slice-tells (named 7) (κs .1 .1 .1 .1 .1 .1 .1 .0) u64, tt))))))))))
       (λ κs qs bounds a g are. via 𝓤 _ (fst∗ 𝓤 _ (emp 𝓤)) (
       walk 𝓤 H A W mem run (κs .0) (κs .1 .0) (κs .1 .1 .0) (κs .1 .1 .1 .0) (κs .1 .1 .1 .1 .0) (κs .1 .1 .1 .1 .1 .0) (κs .1 .1 .1 .1 .1 .1 .0) (κs .1 .1 .1 .1 .1 .1 .1 .0) (qs .0) (qs .1 .0) (qs .1 .1 .0) (qs .1 .1 .1 .0) (qs .1 .1 .1 .1 .0) (qs .1 .1 .1 .1 .1 .0) (qs .1 .1 .1 .1 .1 .1 .0) (qs .1 .1 .1 .1 .1 .1 .1 .0) (a .0) (a .1 .0) (a .1 .1 .0) (a .1 .1 .1 .0) (a .1 .1 .1 .1 .0) (a .1 .1 .1 .1 .1 .0) (a .1 .1 .1 .1 .1 .1 .0) (a .1 .1 .1 .1 .1 .1 .1 .0) (a .1 .1 .1 .1 .1 .1 .1 .1 .0)
-      (are .0 .0 .1) (are .1 .0 .0 .1) (are .1 .1 .0 .0 .1) (are .1 .1 .1 .0 .0 .1) (are .1 .1 .1 .1 .0 .0 .1) (are .1 .1 .1 .1 .1 .0 .0 .1) (are .1 .1 .1 .1 .1 .1 .0) (are .1 .1 .1 .1 .1 .1 .1 .0 .0 .1) (are .1 .1 .1 .1 .1 .1 .1 .1 .0 .0 .1) C Λ fm known₁ known₂ known₃ known₄ known₅ known₆ known₇))
+      (are .0 .0 .1) (are .1 .0 .0 .1) (are .1 .1 .0 .0 .1) (are .1 .1 .1 .0 .0 .1) (are .1 .1 .1 .1 .0 .0 .1) (are .1 .1 .1 .1 .1 .0 .0 .1) (are .1 .1 .1 .1 .1 .1 .0) (are .1 .1 .1 .1 .1 .1 .1 .0 .0 .1) (are .1 .1 .1 .1 .1 .1 .1 .1 .0 .0 .1) C Λ fm known₁ known₂ known₃ known₄ known₅ known₆ known₇ known₈))
 
-entry-meets : {M : Type 1} (𝓤 : URA M) (H : Heap 𝓤) (A : Atoms 𝓤) → Given 𝓤 H A → (mem : Memory → SProp 𝓤) (run : Routine → Fun 𝓤) (𝓣 : Tables 𝓤 H) → Triple 𝓤 (𝓣 .C #records·no-dsts) (NoDsts 𝓤 H A mem run) → Triple 𝓤 (𝓣 .C #records·no-rhss) (NoRhss 𝓤 H A mem run) → Triple 𝓤 (𝓣 .C #records·unload) (Unload 𝓤 H A mem run) → Triple 𝓤 (𝓣 .C #records·fill-back-first) (Fill 𝓤 H A mem run) → Triple 𝓤 (𝓣 .C #records·held) (Holds 𝓤 H A mem run) → Triple 𝓤 (𝓣 .C #records·looked) (Looks 𝓤 H A mem run) → Triple 𝓤 (𝓣 .C #records·records-fault) (Faults 𝓤 H A mem run)
+entry-meets : {M : Type 1} (𝓤 : URA M) (H : Heap 𝓤) (A : Atoms 𝓤) → Given 𝓤 H A → (mem : Memory → SProp 𝓤) (run : Routine → Fun 𝓤) (𝓣 : Tables 𝓤 H) → Triple 𝓤 (𝓣 .C #records·no-dsts) (NoDsts 𝓤 H A mem run) → Triple 𝓤 (𝓣 .C #records·no-rhss) (NoRhss 𝓤 H A mem run) → Triple 𝓤 (𝓣 .C #records·unload) (Unload 𝓤 H A mem run) → Triple 𝓤 (𝓣 .C #records·fill-back-first) (Fill 𝓤 H A mem run) → Triple 𝓤 (𝓣 .C #records·held) (Holds 𝓤 H A mem run) → Triple 𝓤 (𝓣 .C #records·looked) (Looks 𝓤 H A mem run) → Triple 𝓤 (𝓣 .C #records·no-terms) (NoTerms 𝓤 H A mem run) → Triple 𝓤 (𝓣 .C #records·records-fault) (Faults 𝓤 H A mem run)
     → Meets 𝓤 H A entry.signature (WpFn 𝓤 H (𝓣 .C) (𝓣 .Λ) code.function) (entry.spec 𝓤 H A mem run)
-entry-meets 𝓤 H A W mem run 𝓣 known₁ known₂ known₃ known₄ known₅ known₆ known₇ =
+entry-meets 𝓤 H A W mem run 𝓣 known₁ known₂ known₃ known₄ known₅ known₆ known₇ known₈ =
     walk-meets 𝓤 H A entry.ended stayed W (goes-dropped 𝓤 H A W 8 (shrSliceOf (0 ∷ []) tt (plain (λ _. u64))) yes (λ κs x f. refl), (goes-dropped 𝓤 H A W 8 (shrSliceOf (1 ∷ []) tt (plain (λ _. u64))) yes (λ κs x f. refl), (goes-dropped 𝓤 H A W 8 (shrSliceOf (2 ∷ []) tt (plain (λ _. u64))) yes (λ κs x f. refl), (goes-dropped 𝓤 H A W 8 (shrSliceOf (3 ∷ []) tt (plain (λ _. u64))) yes (λ κs x f. refl), (goes-dropped 𝓤 H A W 8 (shrSliceOf (4 ∷ []) tt (plain (λ _. u64))) yes (λ κs x f. refl), (goes-dropped 𝓤 H A W 8 (shrSliceOf (5 ∷ []) tt (plain (λ _. R))) yes (λ κs x f. refl), (goes-dropped 𝓤 H A W 8 (plain (λ _. Z.the-row)) yes (λ κs x f. refl), (goes-dropped 𝓤 H A W 8 (shrSliceOf (6 ∷ []) tt (plain (λ _. u8))) yes (λ κs x f. refl), (goes-gave-slice 𝓤 H A W 8 7 tt (plain (λ _. u64)), tt))))))))) (entry.clauses 𝓤 H A mem run)
-    (WpFn 𝓤 H (𝓣 .C) (𝓣 .Λ) code.function) (WpFn-mono 𝓤 H (W .laws) 𝓣 code.function) (entry-walks 𝓤 H A W mem run (𝓣 .C) (𝓣 .Λ) (fmOf 𝓤 H (W .laws) 𝓣) known₁ known₂ known₃ known₄ known₅ known₆ known₇)
+    (WpFn 𝓤 H (𝓣 .C) (𝓣 .Λ) code.function) (WpFn-mono 𝓤 H (W .laws) 𝓣 code.function) (entry-walks 𝓤 H A W mem run (𝓣 .C) (𝓣 .Λ) (fmOf 𝓤 H (W .laws) 𝓣) known₁ known₂ known₃ known₄ known₅ known₆ known₇ known₈)
 
 pub fill-back-records-spec : {M : Type 1} → stated.statement M
 unfolding code.routine tablesOf
@@ -276,4 +297,5 @@ fill-back-records-spec 𝓤 H 𝓜 𝓖 𝓡 =
     (cited 𝓤 H (Fill 𝓤 H (𝓖 .A) (𝓜 .mem) (𝓡 .run)) 𝓜 𝓡 code.env #records·fill-back-first fill-def.routine code.calls-records·fill-back-first (fill-thm.met 𝓤 H 𝓜 𝓖 𝓡))
     (cited 𝓤 H (Holds 𝓤 H (𝓖 .A) (𝓜 .mem) (𝓡 .run)) 𝓜 𝓡 code.env #records·held held-def.routine code.calls-records·held (held-thm.met 𝓤 H 𝓜 𝓖 𝓡))
     (cited 𝓤 H (Looks 𝓤 H (𝓖 .A) (𝓜 .mem) (𝓡 .run)) 𝓜 𝓡 code.env #records·looked looked-def.routine code.calls-records·looked (looked-thm.met 𝓤 H 𝓜 𝓖 𝓡))
+    (cited 𝓤 H (NoTerms 𝓤 H (𝓖 .A) (𝓜 .mem) (𝓡 .run)) 𝓜 𝓡 code.env #records·no-terms no-terms-def.routine code.calls-records·no-terms (no-terms-thm.met 𝓤 H 𝓜 𝓖 𝓡))
     (cited 𝓤 H (Faults 𝓤 H (𝓖 .A) (𝓜 .mem) (𝓡 .run)) 𝓜 𝓡 code.env #records·records-fault faults-def.routine code.calls-records·records-fault (faults-thm.met 𝓤 H 𝓜 𝓖 𝓡)))

@@ -4,6 +4,15 @@ use borrow.Author.Needs.{needs}
 use Rattle.records.proofs.fuse_first.Statement.{statement}
 use Rattle.records.proofs.fuse_first.Tie as tie
 
+sub-past-fault : tie.Need-sub-past-fault
+sub-past-fault c = search needs
+
+part-past-fault-start : tie.Need-part-past-fault-start
+part-past-fault-start c = search needs
+
+part-past-fault-end : tie.Need-part-past-fault-end
+part-past-fault-end c = search needs
+
 past-fault-requires : tie.Need-past-fault-requires
 past-fault-requires c κs = search needs
 
@@ -62,6 +71,9 @@ pub fuse-first-spec : {M : Type 1} → statement M
 fuse-first-spec =
     tie.close
     (tie.spec
+    sub-past-fault
+    part-past-fault-start
+    part-past-fault-end
     past-fault-requires
     same-length
     same-length-2

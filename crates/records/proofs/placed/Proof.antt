@@ -4,15 +4,6 @@ use borrow.Author.Needs.{needs}
 use Rattle.records.proofs.placed.Statement.{statement}
 use Rattle.records.proofs.placed.Tie as tie
 
-sub-check : tie.Need-sub-check
-sub-check c = search needs
-
-part-check-start : tie.Need-part-check-start
-part-check-start c = search needs
-
-part-check-end : tie.Need-part-check-end
-part-check-end c = search needs
-
 check-requires : tie.Need-check-requires
 check-requires c κs = search needs
 
@@ -23,5 +14,4 @@ returns-2 : tie.Need-returns-2
 returns-2 c = search other-read
 
 pub placed-spec : {M : Type 1} → statement M
-placed-spec =
-    tie.close (tie.spec sub-check part-check-start part-check-end check-requires returns returns-2)
+placed-spec = tie.close (tie.spec check-requires returns returns-2)
