@@ -121,6 +121,8 @@ fn next_live(ms: &[u64], from: usize, mask: u64) -> usize
     i
 }
 
+// A term at the top. It goes below by `expand_operand` itself: of the functions that call each other only that one has two callers, so
+// a call is made for each definition that is opened, and none for a term.
 pub fn expand_term<'a>(
     old: &'a [u64],
     new: &'a [u64],
@@ -141,7 +143,18 @@ pub fn expand_term<'a>(
     ensures { λ r. ⌜ spelt (now (out .exit)) r ≡ spell (source (now (old .entry)) (now (new .entry)) (now (rhss .entry)) (now (table .entry)) (now (decisions .entry)) (now (alive .entry))) below (under (wire .0) inner outer) (spelt (now (out .entry)) c) ⌝ }
     ensures { λ r. ⌜ r .count ≤ length (now (out .entry)) ⌝ }
 {
-    expand_at(
+    if c.full {
+        return c;
+    }
+    let node = inlined(table, decisions, wire);
+    let Node::LinDef(d) = node else {
+        return put(&mut *out, c, wire, inner, outer);
+    };
+    let mask = alive::pulled(inner, alive::pulled(outer, 0xffff_ffff_ffff_ffff));
+    if is_dead(alive, d, mask) {
+        return c;
+    }
+    expand_operand(
         old,
         new,
         rhss,
@@ -150,11 +163,11 @@ pub fn expand_term<'a>(
         alive,
         &mut *out,
         c,
-        wire,
+        d,
         inner,
         outer,
-        alive::pulled(inner, alive::pulled(outer, 0xffff_ffff_ffff_ffff)),
-        below,
+        mask,
+        below - 1,
     )
 }
 
