@@ -95,9 +95,9 @@ pub build-none : (go : Term → Written → Written) (b : Built) → buildAll go
 unfolding buildAll
 build-none go b = refl
 
-pub build-single : (go : Term → Written → Written) (o : Operand) (b : Built) → buildAll go (o ∷ []) b ≡ buildOne go o b
-unfolding buildAll
-build-single go o b = refl
+-- a row of one
+pub row-single : (hs : List ℕ) (i : ℕ) → i < length hs → take (i + 1 - i) (drop i hs) ≡ getD hs i 0 ∷ []
+row-single hs i h = let e : i + 1 - i ≡ 1 = omega arith in rw (e, drop-step hs i 0 h)
 
 pub build-both : (go : Term → Written → Written) (a c : List Operand) (b : Built) → buildAll go (a ++ c) b ≡ buildAll go c (buildAll go a b)
 unfolding buildAll

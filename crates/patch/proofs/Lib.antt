@@ -8,6 +8,7 @@ pub mod Samples
 pub mod Writing
 pub mod Spells
 pub mod Passing
+pub mod Folds
 pub mod Looking
 pub mod Lookables
 pub mod Unique

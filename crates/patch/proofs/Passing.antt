@@ -1,5 +1,5 @@
 -- Masks that are carried down an expansion, and terms that are passed over by them. Assumes nothing.
-use mathlib.Core.Path.{_≡_, refl, sym, ap, _∙_, subst}
+use mathlib.Core.Path.{_≡_, refl, sym, ap, ap₂, _∙_, subst}
 use Prim.Native.Nat.{ℕ, zero, suc, _+_, _-_, _^_, _≤_, _<_}
 use mathlib.Core.Bool.{Bool, true, false}
 use mathlib.Core.List.{List, map}
@@ -14,7 +14,7 @@ use borrow.Author.Tests.{eq-eqb, ne-eqb, eqb-true, eqb-false}
 use Rattle.shift.specs.declared.Shift.{Shift}
 use Rattle.shift.specs.Shifts.{Valid, validNumber, shiftAt, applyOf}
 use Rattle.shift.proofs.Linear.{shifted-lt}
-use Rattle.shift.proofs.Numbers.{valid-at}
+use Rattle.shift.proofs.Numbers.{number-back, valid-at}
 use Rattle.operand.specs.declared.PushInner.{PushInner}
 use Rattle.operand.specs.declared.PushInner.the-variants.{Seq, Zero, OverBudget}
 use Rattle.operand.specs.Push.{pushValid}
@@ -27,7 +27,7 @@ use Rattle.alive.proofs.Living.{fold-says, seq-alive}
 use Rattle.patch.specs.Expansion.{under, Within}
 use Rattle.patch.specs.Steps.{Written, writeDown}
 use Rattle.patch.specs.Spelling.{Source, inPlace, inlinedNumber, spellUnder, spell, Sees, lookBy, look, termsIn, looksFrom, Opens}
-use Rattle.patch.proofs.Spells.{place-some, spell-full, spell-dead, under-step, term-read}
+use Rattle.patch.proofs.Spells.{place-some, spell-dead, under-step, term-read}
 
 -- ---- masks
 
@@ -92,7 +92,7 @@ module _ (s : Source) (small : (e : ℕ) → getD (s .alive) e 0 < 2 ^ 64) (n k 
   pub passed : (u : Term) → validNumber (u .inner) ≡ true → Within (inPlace s) n (u .wire) → bitAnd (look (s .table) (s .decisions) (s .alive) u) k ≡ 0 → (m : Written)
       → writeDown (spell s n) (u .wire) (pushValid i o (shiftAt (u .inner)) 2) m ≡ m
   unfolding look
-  passed u v deep e m = by (inlinedNumber (s .decisions) (getD (s .table) (u .wire) 0)) refl e (pushValid i o f 2) refl (m .full) refl
+  passed u v deep e m = by (inlinedNumber (s .decisions) (getD (s .table) (u .wire) 0)) refl e (pushValid i o f 2) refl
     where
       f : Shift
       f = shiftAt (u .inner)
@@ -100,17 +100,17 @@ module _ (s : Source) (small : (e : ℕ) → getD (s .alive) e 0 < 2 ^ 64) (n k 
       hf : Valid f
       hf = valid-at (u .inner) v
 
-      by : (x : ℕ) → inlinedNumber (s .decisions) (getD (s .table) (u .wire) 0) ≡ x → bitAnd (lookBy (s .alive) u x) k ≡ 0 → (p : PushInner) → pushValid i o f 2 ≡ p → (b : Bool) → m .full ≡ b
+      by : (x : ℕ) → inlinedNumber (s .decisions) (getD (s .table) (u .wire) 0) ≡ x → bitAnd (lookBy (s .alive) u x) k ≡ 0 → (p : PushInner) → pushValid i o f 2 ≡ p
           → writeDown (spell s n) (u .wire) p m ≡ m
-      by x q z Zero r b g = refl
-      by x q z OverBudget r b g = refl
-      by x q z (Seq a c) r true g = sym (spell-full s n m (under (u .wire) a c) g)
-      by zero q z (Seq a c) r false g = absurd (none-seen k i o f hi ho hf sees a c r (sym (ones-all k (sees .0)) ∙ and-comm k ones ∙ z))
-      by (suc d) q z (Seq a c) r false g =
+      by x q z Zero r = refl
+      by x q z OverBudget r = refl
+      by zero q z (Seq a c) r = absurd (none-seen k i o f hi ho hf sees a c r (sym (ones-all k (sees .0)) ∙ and-comm k ones ∙ z))
+      by (suc d) q z (Seq a c) r =
           let t = fold-says i o f hi ho hf 2 (Seq a c) r in
           let w = getD (s .alive) d 0 in
-          sym (spell-dead s n m (u .wire) a c g (t .0) (t .1) d (place-some s (u .wire) d q) deep
-          (eq-eqb (applyOf c (applyOf a w)) 0 (t .2 w (small d) ∙ sees .1 (applyOf f w) (shifted-lt f hf w (small d)) .0 z)))
+          sym (spell-dead s n m (under (u .wire) a c) d (place-some s (u .wire) d q) deep
+          (ap₂ (λ (x y : Shift). eqb (applyOf x (applyOf y w)) 0) (number-back c (t .1)) (number-back a (t .0))
+          ∙ eq-eqb (applyOf c (applyOf a w)) 0 (t .2 w (small d) ∙ sees .1 (applyOf f w) (shifted-lt f hf w (small d)) .0 z)))
 
   -- so do all that stand before the place r
   pub passed-all : (ts : List ℕ) → ((j : ℕ) → j < length ts → validNumber (termOf (getD ts j 0) .inner) ≡ true) → ((j : ℕ) → j < length ts → Within (inPlace s) n (termOf (getD ts j 0) .wire))
@@ -135,7 +135,7 @@ module _ (s : Source) (small : (e : ℕ) → getD (s .alive) e 0 < 2 ^ 64) (n k 
   pub masks-length : length ms ≡ length ts
   masks-length = ap length q ∙ length-take-le (length ts) (drop (looksFrom s d) (s .alive)) (rw (length-drop (looksFrom s d) (s .alive)) (omega (arith, opens .looks .ends, same)))
 
-  mask-at : (j : ℕ) → j < length ts → getD ms j 0 ≡ look (s .table) (s .decisions) (s .alive) (termOf (getD ts j 0))
+  pub mask-at : (j : ℕ) → j < length ts → getD ms j 0 ≡ look (s .table) (s .decisions) (s .alive) (termOf (getD ts j 0))
   mask-at j h =
       ap (λ (l : List ℕ). getD l j 0) q
       ∙ getD-take (length ts) (drop (looksFrom s d) (s .alive)) j 0 h

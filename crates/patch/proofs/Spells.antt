@@ -1,23 +1,23 @@
 -- Laws of expansion as the program does it, one step at a time. Assumes nothing.
-use mathlib.Core.Path.{_≡_, refl, sym, ap, ap₂, _∙_, subst}
+use mathlib.Core.Path.{_≡_, refl, sym, ap, _∙_, subst}
 use Prim.Native.Nat.{ℕ, zero, suc, _+_, _-_, _≤_, _<_}
 use mathlib.Core.Bool.{Bool, true, false, cond}
 use mathlib.Core.List.{List, [], _∷_, map}
 use mathlib.Core.Option.{Option, none, some}
 use native.Mathlib.Omega.{arith}
 use lib.Dec.{eqb}
+use native.Mathlib.Decide.{decLt}
 use lib.ListN.{length, getD, set, drop, drop-of-length-le, length-set}
 use borrow.Author.Tests.{lt-ltb, le-ltb, ne-eqb}
 use Rattle.shift.specs.declared.Shift.{Shift}
-use Rattle.shift.specs.Shifts.{Valid, numberOf, validNumber, shiftAt, applyOf}
-use Rattle.shift.proofs.Numbers.{number-back, number-valid, number-there, valid-low}
+use Rattle.shift.specs.Shifts.{Valid, numberOf, shiftAt, applyOf}
+use Rattle.shift.proofs.Numbers.{number-valid, valid-low}
 use Rattle.operand.specs.declared.PushInner.{PushInner}
 use Rattle.operand.specs.declared.PushInner.the-variants.{Seq, Zero, OverBudget}
 use Rattle.operand.specs.Push.{pushValid}
 use Rattle.operand.specs.Numbers.{Term, Operand, termOf, termNumber, operandAt, termsAt, operandOf}
 use Rattle.lower.specs.Lists.{All}
 use Rattle.lower.specs.Tables.{marked}
-use Rattle.lower.specs.Accepted.{ShiftsOf}
 use Rattle.lower.proofs.Firsts.{drop-step}
 use Rattle.lower.proofs.Alls.{all-unmap}
 use Rattle.legraph.proofs.Walks.{rhs-terms}
@@ -26,7 +26,7 @@ use Rattle.legraph.specs.Walked.{rhsIn}
 use Rattle.patch.specs.declared.Cursor.{Cursor}
 use Rattle.patch.specs.Expansion.{under, Within}
 use Rattle.patch.specs.Steps.{Written, wrote, put, writeDown, writeTerms}
-use Rattle.patch.specs.Spelling.{Source, placeOf, inPlace, inlinedNumber, aliveAt, dead, spelt, spellUnder, spellBy, spell}
+use Rattle.patch.specs.Spelling.{Source, placeOf, inPlace, inlinedNumber, aliveAt, dead, spelt, cursorAt, speltTo, spellUnder, spellBy, spell}
 
 pub number-low : (s : Shift) → Valid s → numberOf s < 512
 number-low s h = valid-low (numberOf s) (number-valid s h)
@@ -40,6 +40,39 @@ unfolding put
 put-room t l n full q h =
     let e : n + 1 ≡ suc n = omega arith in
     rw (q, lt-ltb n (length l) h, e)
+
+-- ---- how far a store is filled, by one number
+
+pub to-live : (l : List ℕ) (n : ℕ) → n ≤ length l → speltTo l n ≡ wrote l n [] false
+unfolding speltTo
+to-live l n h = rw (le-ltb (length l) n h)
+
+pub to-full : (l : List ℕ) (n : ℕ) → length l < n → speltTo l n ≡ wrote l (length l) [] true
+unfolding speltTo
+to-full l n h = rw (lt-ltb (length l) n h)
+
+pub to-spelt : (l : List ℕ) (n : ℕ) → spelt l (cursorAt (length l) n) ≡ speltTo l n
+unfolding speltTo
+to-spelt l n = refl
+
+pub cursor-low : (c : Cursor) (end n room : ℕ) → c ≡ cursorAt end n → end ≡ room → c .count ≤ room
+cursor-low c end n room e h =
+    rw e (elim (decLt end n) [ yes k ↦ rw (lt-ltb end n k) (omega (arith, h)) | no k ↦ rw (le-ltb end n (omega arith)) (omega (arith, h)) ])
+
+pub to-cursor : (l : List ℕ) (c : Cursor) → c .full ≡ false → c .count ≤ length l → speltTo l (c .count) ≡ spelt l c
+to-cursor l c e h = to-live l (c .count) h ∙ ap (wrote l (c .count) []) (sym e)
+
+pub below-full : (t : Term) (l : List ℕ) (n : ℕ) → length l ≤ n → speltTo l (length l + 1) ≡ put t (speltTo l n)
+unfolding put
+below-full t l n h =
+    to-full l (length l + 1) (omega arith)
+    ∙ elim (decLt (length l) n) [ yes k ↦ rw (to-full l n k) | no k ↦ let e : n ≡ length l = omega arith in rw (e, to-live l (length l) (omega arith), le-ltb (length l) (length l) (omega arith)) ]
+
+pub below-room : (t : Term) (l : List ℕ) (n : ℕ) → n < length l → speltTo (set l n (termNumber t)) (n + 1) ≡ put t (speltTo l n)
+below-room t l n h =
+    to-live (set l n (termNumber t)) (n + 1) (omega (arith, h, length-set l n (termNumber t)))
+    ∙ put-room t l n false refl h
+    ∙ ap (put t) (sym (to-live l n (omega arith)))
 
 -- the node that is found tells what is put in the wire's place
 pub place-none : (s : Source) (w : ℕ) → inlinedNumber (s .decisions) (getD (s .table) w 0) ≡ 0 → inPlace s w ≡ none
@@ -81,64 +114,86 @@ module _ (s : Source) (n : ℕ) (m : Written) where
       go zero = rw h
       go (suc k) = rw h
 
-  module _ (w : ℕ) (i o : Shift) (live : m .full ≡ false) where
-    pub spell-stands : inPlace s w ≡ none → put (under w i o) m ≡ spell s n (under w i o) m
-    unfolding spell spellBy
-    spell-stands e = go n
+  down-full : (w : ℕ) (x : PushInner) → m .full ≡ true → writeDown (spell s n) w x m ≡ m
+  down-full w (Seq a b) h = sym (spell-full (under w a b) h)
+  down-full w Zero h = refl
+  down-full w OverBudget h = refl
+
+  pub under-full : (i o : Shift) (us : Operand) → m .full ≡ true → m ≡ spellUnder (spell s n) i o us m
+  unfolding spellUnder
+  under-full i o [] h = refl
+  under-full i o (u ∷ us) h =
+      under-full i o us h ∙ ap (spellUnder (spell s n) i o us) (sym (down-full (u .wire) (pushValid i o (shiftAt (u .inner)) 2) h))
+
+-- nothing is done once a term found no room, so each law of a term holds then too
+module _ (s : Source) (n : ℕ) (m : Written) (t : Term) where
+  pub spell-stands : inPlace s (t .wire) ≡ none → put t m ≡ spell s n t m
+  unfolding spell spellBy put
+  spell-stands e = go (m .full) refl
+    where
+      live : m .full ≡ false → (k : ℕ) → put t m ≡ spell s k t m
+      live f zero = rw f
+      live f (suc k) = rw (f, e)
+
+      go : (b : Bool) → m .full ≡ b → put t m ≡ spell s n t m
+      go true f = (rw f) ∙ spell-full s n m t f
+      go false f = live f n
+
+  module _ (d : ℕ) (p : Placed s (t .wire) d) (deep : Within (inPlace s) n (t .wire)) where
+    pub some-left : 0 < n
+    some-left = go n deep
       where
-        go : (k : ℕ) → put (under w i o) m ≡ spell s k (under w i o) m
-        go zero = rw live
-        go (suc k) = rw (live, e)
+        go : (k : ℕ) → Within (inPlace s) k (t .wire) → 0 < k
+        go zero x = let z : none ≡ some (rhsIn (s .old) (s .new) (s .rhss) d) = sym x ∙ p .put-there in let y : _≡_ {A = ℕ} 0 1 = cc in absurd (omega arith)
+        go (suc k) x = omega arith
 
-    module _ (hi : Valid i) (ho : Valid o) (d : ℕ) (p : Placed s w d) (deep : Within (inPlace s) n w) where
-      pub some-left : 0 < n
-      some-left = go n deep
-        where
-          go : (k : ℕ) → Within (inPlace s) k w → 0 < k
-          go zero x = let z : none ≡ some (rhsIn (s .old) (s .new) (s .rhss) d) = sym x ∙ p .put-there in let y : _≡_ {A = ℕ} 0 1 = cc in absurd (omega arith)
-          go (suc k) x = omega arith
+    pub within-below : All (λ (u : Term). Within (inPlace s) (n - 1) (u .wire)) (rhsIn (s .old) (s .new) (s .rhss) d)
+    within-below = go n deep
+      where
+        go : (k : ℕ) → Within (inPlace s) k (t .wire) → All (λ (u : Term). Within (inPlace s) (k - 1) (u .wire)) (rhsIn (s .old) (s .new) (s .rhss) d)
+        go zero x = let z : none ≡ some (rhsIn (s .old) (s .new) (s .rhss) d) = sym x ∙ p .put-there in let y : _≡_ {A = ℕ} 0 1 = cc in absurd (omega arith)
+        go (suc k) x =
+            let e : suc k - 1 ≡ k = omega arith in
+            rw e (x (rhsIn (s .old) (s .new) (s .rhss) d) (p .put-there))
 
-      pub within-below : All (λ (u : Term). Within (inPlace s) (n - 1) (u .wire)) (rhsIn (s .old) (s .new) (s .rhss) d)
-      within-below = go n deep
-        where
-          go : (k : ℕ) → Within (inPlace s) k w → All (λ (u : Term). Within (inPlace s) (k - 1) (u .wire)) (rhsIn (s .old) (s .new) (s .rhss) d)
-          go zero x = let z : none ≡ some (rhsIn (s .old) (s .new) (s .rhss) d) = sym x ∙ p .put-there in let y : _≡_ {A = ℕ} 0 1 = cc in absurd (omega arith)
-          go (suc k) x =
-              let e : suc k - 1 ≡ k = omega arith in
-              rw e (x (rhsIn (s .old) (s .new) (s .rhss) d) (p .put-there))
+    dead-is : dead s t ≡ eqb (applyOf (shiftAt (t .outer)) (applyOf (shiftAt (t .inner)) (getD (s .alive) d 0))) 0
+    unfolding dead
+    dead-is = ap (λ (x : ℕ). eqb (applyOf (shiftAt (t .outer)) (applyOf (shiftAt (t .inner)) (aliveAt s x))) 0) (p .node)
 
-      dead-is : dead s (under w i o) ≡ eqb (applyOf o (applyOf i (getD (s .alive) d 0))) 0
-      unfolding dead
-      dead-is =
-          ap₂ (λ (a b : Shift). eqb (applyOf a (applyOf b (aliveAt s (getD (s .table) w 0)))) 0) (number-back o ho) (number-back i hi)
-          ∙ ap (λ (x : ℕ). eqb (applyOf o (applyOf i (aliveAt s x))) 0) (p .node)
+    pub spell-dead : eqb (applyOf (shiftAt (t .outer)) (applyOf (shiftAt (t .inner)) (getD (s .alive) d 0))) 0 ≡ true → m ≡ spell s n t m
+    unfolding spell spellBy
+    spell-dead h = go (m .full) refl
+      where
+        live : m .full ≡ false → (k : ℕ) → 0 < k → m ≡ spell s k t m
+        live f zero x = absurd (omega arith)
+        live f (suc k) x = rw (f, p .put-there, dead-is ∙ h)
 
-      pub spell-dead : eqb (applyOf o (applyOf i (getD (s .alive) d 0))) 0 ≡ true → m ≡ spell s n (under w i o) m
-      unfolding spell spellBy
-      spell-dead h = go n some-left
-        where
-          go : (k : ℕ) → 0 < k → m ≡ spell s k (under w i o) m
-          go zero x = absurd (omega arith)
-          go (suc k) x = rw (live, p .put-there, dead-is ∙ h)
+        go : (b : Bool) → m .full ≡ b → m ≡ spell s n t m
+        go true f = spell-full s n m t f
+        go false f = live f n some-left
 
-      pub spell-opens : eqb (applyOf o (applyOf i (getD (s .alive) d 0))) 0 ≡ false
-          → spellUnder (spell s (n - 1)) i o (rhsIn (s .old) (s .new) (s .rhss) d) m ≡ spell s n (under w i o) m
-      unfolding spell spellBy
-      spell-opens h = go n some-left
-        where
-          go : (k : ℕ) → 0 < k → spellUnder (spell s (k - 1)) i o (rhsIn (s .old) (s .new) (s .rhss) d) m ≡ spell s k (under w i o) m
-          go zero x = absurd (omega arith)
-          go (suc k) x =
-              let e : suc k - 1 ≡ k = omega arith in
-              let rhs : Operand = rhsIn (s .old) (s .new) (s .rhss) d in
-              let t : Term = under w i o in
-              ap (λ (j : ℕ). spellUnder (spell s j) i o rhs m) e
-              ∙ sym (
-              ap (λ (b : Bool). cond b m (spellBy s (spell s k) t (inPlace s w) m)) live
-              ∙ ap (λ (q : Option Operand). spellBy s (spell s k) t q m) (p .put-there)
-              ∙ ap (λ (b : Bool). cond b m (spellUnder (spell s k) (shiftAt (t .inner)) (shiftAt (t .outer)) rhs m)) (dead-is ∙ h)
-              ∙ ap₂ (λ (a b : Shift). spellUnder (spell s k) a b rhs m) (number-back i hi) (number-back o ho)
-              )
+    pub spell-opens : eqb (applyOf (shiftAt (t .outer)) (applyOf (shiftAt (t .inner)) (getD (s .alive) d 0))) 0 ≡ false
+        → spellUnder (spell s (n - 1)) (shiftAt (t .inner)) (shiftAt (t .outer)) (rhsIn (s .old) (s .new) (s .rhss) d) m ≡ spell s n t m
+    unfolding spell spellBy
+    spell-opens h = go (m .full) refl
+      where
+        rhs : Operand
+        rhs = rhsIn (s .old) (s .new) (s .rhss) d
+
+        live : m .full ≡ false → (k : ℕ) → 0 < k → spellUnder (spell s (k - 1)) (shiftAt (t .inner)) (shiftAt (t .outer)) rhs m ≡ spell s k t m
+        live f zero x = absurd (omega arith)
+        live f (suc k) x =
+            let e : suc k - 1 ≡ k = omega arith in
+            ap (λ (j : ℕ). spellUnder (spell s j) (shiftAt (t .inner)) (shiftAt (t .outer)) rhs m) e
+            ∙ sym (
+            ap (λ (b : Bool). cond b m (spellBy s (spell s k) t (inPlace s (t .wire)) m)) f
+            ∙ ap (λ (q : Option Operand). spellBy s (spell s k) t q m) (p .put-there)
+            ∙ ap (λ (b : Bool). cond b m (spellUnder (spell s k) (shiftAt (t .inner)) (shiftAt (t .outer)) rhs m)) (dead-is ∙ h)
+            )
+
+        go : (b : Bool) → m .full ≡ b → spellUnder (spell s (n - 1)) (shiftAt (t .inner)) (shiftAt (t .outer)) rhs m ≡ spell s n t m
+        go true f = sym (under-full s (n - 1) m (shiftAt (t .inner)) (shiftAt (t .outer)) rhs f) ∙ spell-full s n m t f
+        go false f = live f n some-left
 
 pub under-step : (go : Term → Written → Written) (i o : Shift) (ts : List ℕ) (k : ℕ) (m : Written) → k < length ts
     → spellUnder go i o (map termOf (drop k ts)) m
@@ -157,10 +212,6 @@ term-read P old new rhss ts d k e a h =
 
 pub marked-node : (l : List ℕ) (w d : ℕ) → getD l w 0 ≡ suc d → true ≡ marked l w
 marked-node l w d e = let z : eqb (suc d) 0 ≡ false = ne-eqb (suc d) 0 (λ h. omega (arith, h)) in rw (e, z)
-
--- a term of valid shifts is told by its wire and its shifts
-pub under-root : (t : Term) → ShiftsOf t → under (t .wire) (shiftAt (t .inner)) (shiftAt (t .outer)) ≡ t
-under-root t h = ap₂ (λ (a b : ℕ). record { wire = t .wire; inner = a; outer = b }) (number-there (t .inner) (h .0)) (number-there (t .outer) (h .1))
 
 pub terms-step : (go : Term → Written → Written) (ts : List ℕ) (k : ℕ) (m : Written) → k < length ts
     → writeTerms go (map termOf (drop k ts)) m ≡ writeTerms go (map termOf (drop (k + 1) ts)) (go (termOf (getD ts k 0)) m)

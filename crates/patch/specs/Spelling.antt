@@ -2,7 +2,12 @@
 --
 --   inPlace            what is put in the place of a wire, by the table of definitions and the decisions: none where the wire stands
 --   dead alive t       no bit that can be set in the wire of t gets through the shifts of t: nothing would be written
---   spelt              the store of new terms and how far it is filled, as a state of Steps.antt
+--   spelt              the store of new terms and how far it is filled, as a state of Steps.antt; speltTo, the same where that is one
+--                      number, which past the end of the store says that a term found no room
+--   Over x             x is the number of a term with valid shifts and no wire: the two shifts that a definition's terms are written under
+--   innerOf, outerOf   the shifts of the term of a number; bare, a term with no wire
+--   foldedAs p         what a fold leaves, by such a number
+--   pull s k           the bits that the shift of number s moves to the mask k; an identity leaves the mask
 --   spell              a term expanded and written; spellUnder, the terms of its definition that are left
 --   look .. u          the mask of a term u of a definition: the bits that can be set in its wire, below its shift; all where the wire stands
 --   Sees k i o         the mask k takes in just what gets through the shifts i, then o
@@ -11,23 +16,28 @@
 --
 -- Assumes nothing.
 use mathlib.Core.Path.{_≡_}
-use Prim.Native.Nat.{ℕ, zero, suc, _+_, _^_, _≤_, _<_}
-use mathlib.Core.Bool.{Bool, true, cond}
+use Prim.Native.Nat.{ℕ, zero, suc, _+_, _*_, _%_, _^_, _≤_, _<_}
+use mathlib.Core.Bool.{Bool, true, false, cond}
 use mathlib.Core.List.{List, [], _∷_}
 use mathlib.Core.Option.{Option, none, some}
-use lib.Dec.{eqb}
+use lib.Dec.{eqb, ltb}
 use lib.ListN.{length, getD}
 use lib.Bits.{bitAnd}
 use Rattle.shift.specs.declared.Shift.{Shift}
-use Rattle.shift.specs.Shifts.{validNumber, shiftAt, applyOf}
+use Rattle.shift.specs.Shifts.{numberOf, validNumber, shiftAt, applyOf}
+use Rattle.operand.specs.declared.PushInner.{PushInner}
+use Rattle.operand.specs.declared.PushInner.the-variants.{Seq, Zero, OverBudget}
 use Rattle.operand.specs.Numbers.{Term, Operand, termOf, operandAt, termsAt}
 use Rattle.operand.specs.Push.{pushValid}
-use Rattle.alive.specs.Masks.{ones}
+use Rattle.alive.specs.Masks.{ones, pulled}
 use Rattle.lower.specs.Lists.{All, someOf}
 use Rattle.lower.specs.Tables.{marked}
+use Rattle.lower.specs.Accepted.{ShiftsOf}
 use Rattle.lower.specs.Stores.{Stands}
 use Rattle.legraph.specs.Walked.{rhsIn}
 use Rattle.patch.specs.declared.Cursor.{Cursor}
+use Rattle.patch.specs.declared.Folded.{Folded}
+use Rattle.patch.specs.declared.Folded.the-variants.{Under, Nothing}
 use Rattle.patch.specs.Steps.{Written, wrote, put, writeDown}
 
 -- the stores that expansion reads
@@ -65,6 +75,32 @@ dead s t = eqb (applyOf (shiftAt (t .outer)) (applyOf (shiftAt (t .inner)) (aliv
 -- no definition is marked on the way: that is told by other means
 abbrev pub spelt : List ℕ → Cursor → Written
 spelt l c = wrote l (c .count) [] (c .full)
+
+abbrev pub cursorAt : ℕ → ℕ → Cursor
+cursorAt end n = cond (ltb end n) (record { count = end; full = true }) (record { count = n; full = false })
+
+unfoldable pub speltTo : List ℕ → ℕ → Written
+speltTo l n = spelt l (cursorAt (length l) n)
+
+abbrev pub innerOf : ℕ → Shift
+innerOf t = shiftAt (termOf t .inner)
+
+abbrev pub outerOf : ℕ → Shift
+outerOf t = shiftAt (termOf t .outer)
+
+abbrev pub bare : Term → Term
+bare t = record { wire = 0; inner = t .inner; outer = t .outer }
+
+abbrev pub Over : ℕ → Type 0
+Over x = (termOf x .wire ≡ 0) × ShiftsOf (termOf x)
+
+abbrev pub foldedAs : PushInner → Folded
+foldedAs (Seq a b) = Under (65536 * numberOf a + 4294967296 * numberOf b)
+foldedAs Zero = Nothing
+foldedAs OverBudget = Nothing
+
+unfoldable pub pull : ℕ → ℕ → ℕ
+pull s k = cond (eqb (s % 64) 0) k (pulled (shiftAt s) k)
 
 -- the terms of a definition that are left, below the shifts i and o
 unfoldable pub spellUnder : (Term → Written → Written) → Shift → Shift → Operand → Written → Written

@@ -214,9 +214,11 @@ fn build_committed<'a>(
         return b;
     }
     let i = d.0 as usize;
-    build_one(
+    let end = i + 1;
+    build_row(
         old,
         new,
+        &rhss[i..end],
         rhss,
         table,
         decisions,
@@ -224,7 +226,6 @@ fn build_committed<'a>(
         &mut *out,
         &mut *list,
         b,
-        rhss[i],
         below,
     )
 }

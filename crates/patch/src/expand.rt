@@ -3,7 +3,7 @@
 // is carried down that takes in just what gets through the shifts: a term is passed over by one test.
 ghost use mathlib.Core.Path.{_≡_};
 ghost use mathlib.Core.Bool.{true, false};
-ghost use Prim.Native.Nat.{ℕ, _+_, _≤_, _<_};
+ghost use Prim.Native.Nat.{ℕ, _+_, _-_, _≤_, _<_};
 ghost use lib.Dec.{eqb};
 ghost use lib.ListN.{length, getD, take, drop};
 ghost use lib.Bits.{bitAnd};
@@ -12,13 +12,15 @@ ghost use Rattle.operand.specs.Numbers.{Term, termOf, operandAt, termsAt, opera
 ghost use Rattle.operand.specs.Push.{pushValid};
 ghost use Rattle.lower.specs.Lists.{All, sumOf};
 ghost use Rattle.lower.specs.Faults.{lengthOf};
+ghost use Rattle.lower.specs.Accepted.{ShiftsOf};
 ghost use Rattle.lower.specs.Stores.{Stands};
 ghost use Rattle.legraph.specs.Tables.{toldNode};
 ghost use Rattle.legraph.specs.Walked.{rhsIn};
-ghost use Rattle.patch.specs.Expansion.{under, Within};
+ghost use Rattle.patch.specs.Expansion.{Within};
 ghost use Rattle.patch.specs.Steps.{put, writeDown};
-ghost use Rattle.patch.specs.Spelling.{source, inPlace, inlinedNumber, spelt, spellUnder, spell, Sees, look, Looked, Lookable, Looks, Opens, Readable};
+ghost use Rattle.patch.specs.Spelling.{source, inPlace, inlinedNumber, spelt, cursorAt, speltTo, innerOf, outerOf, bare, Over, foldedAs, pull, spellUnder, spell, Sees, look, Looked, Lookable, Looks, Opens, Readable};
 use crate::Cursor;
+use crate::Folded;
 use legraph::Node;
 use operand::LinDefId;
 use operand::PushInner;
@@ -26,11 +28,9 @@ use operand::Wire;
 use shift::Shift;
 
 // The store of new terms with one more, or full.
-fn put(out: &mut [u64], c: Cursor, wire: Wire, inner: Shift, outer: Shift) -> Cursor
-    requires { ⌜ Valid inner ⌝ }
-    requires { ⌜ Valid outer ⌝ }
+fn put(out: &mut [u64], c: Cursor, t: u64) -> Cursor
     requires { ⌜ (c .full ≡ false) × (c .count ≤ length (now out)) ⌝ }
-    ensures { λ r. ⌜ (spelt (now (out .exit)) r ≡ put (under (wire .0) inner outer) (spelt (now (out .entry)) c)) × (r .count ≤ length (now (out .entry))) ⌝ }
+    ensures { λ r. ⌜ (spelt (now (out .exit)) r ≡ put (termOf t) (spelt (now (out .entry)) c)) × (r .count ≤ length (now (out .entry))) ⌝ }
 {
     let n = c.count;
     if out.len() <= n {
@@ -39,13 +39,36 @@ fn put(out: &mut [u64], c: Cursor, wire: Wire, inner: Shift, outer: Shift) -> Cu
             full: true,
         };
     }
-    out[n] = operand::term::number(
-        wire,
-        shift::valid::index(inner) as u16,
-        shift::valid::index(outer) as u16,
-    );
+    out[n] = t;
     Cursor {
         count: n + 1,
+        full: false,
+    }
+}
+
+// The same by one number: below a definition a cursor is how many terms there are, or, once the store is full, one more than it has places.
+fn put_below(out: &mut [u64], n: usize, t: u64) -> usize
+    ensures { λ r. ⌜ speltTo (now (out .exit)) r ≡ put (termOf t) (speltTo (now (out .entry)) n) ⌝ }
+{
+    let end = out.len();
+    if end <= n {
+        return end + 1;
+    }
+    out[n] = t;
+    n + 1
+}
+
+fn cursor(end: usize, n: usize) -> Cursor
+    ensures { λ r. ⌜ r ≡ cursorAt end n ⌝ }
+{
+    if end < n {
+        return Cursor {
+            count: end,
+            full: true,
+        };
+    }
+    Cursor {
+        count: n,
         full: false,
     }
 }
@@ -121,6 +144,83 @@ fn next_live(ms: &[u64], from: usize, mask: u64) -> usize
     i
 }
 
+// The two shifts of a term, spelt as there; the wire's place is empty.
+fn shifts(t: u64) -> u64
+    ensures { λ r. ⌜ termOf r ≡ bare (termOf t) ⌝ }
+{
+    t - t % 65536
+}
+
+// The bits of a word that get through both shifts of a term.
+fn through(t: u64) -> u64
+    requires { ⌜ ShiftsOf (termOf t) ⌝ }
+    ensures { λ r. ⌜ Sees r (innerOf t) (outerOf t) ⌝ }
+{
+    let inner = shift::valid::from_index(operand::term::inner(t));
+    let outer = shift::valid::from_index(operand::term::outer(t));
+    alive::pulled(inner, alive::pulled(outer, 0xffff_ffff_ffff_ffff))
+}
+
+// Most shifts of terms are identities, which leave a mask as it is.
+fn pull(s: u64, mask: u64) -> u64
+    requires { ⌜ validNumber s ≡ true ⌝ }
+    ensures { λ r. ⌜ r ≡ pull s mask ⌝ }
+{
+    if s % 64 == 0 {
+        return mask;
+    }
+    alive::pulled(shift::valid::from_index(s), mask)
+}
+
+fn fold_shifts(inner: Shift, outer: Shift, s: Shift) -> Folded
+    requires { ⌜ Valid inner × Valid outer × Valid s ⌝ }
+    ensures { λ r. ⌜ r ≡ foldedAs (pushValid inner outer s 2) ⌝ }
+{
+    match operand::valid::push_inner(inner, outer, s, 2) {
+        PushInner::Seq(i, o) => {
+            Folded::Under(65536 * shift::valid::index(i) + 4294967296 * shift::valid::index(o))
+        }
+        PushInner::Zero => Folded::Nothing,
+        PushInner::OverBudget => Folded::Nothing,
+    }
+}
+
+// The shift whose number stands in the wire's place folded in below the two others. The three come as one number, so that none is taken
+// out of it before it is needed.
+fn fold_three(x: u64) -> Folded
+    requires { ⌜ (validNumber (termOf x .wire) ≡ true) × ShiftsOf (termOf x) ⌝ }
+    ensures { λ r. ⌜ r ≡ foldedAs (pushValid (innerOf x) (outerOf x) (shiftAt (termOf x .wire)) 2) ⌝ }
+{
+    fold_shifts(
+        shift::valid::from_index(operand::term::inner(x)),
+        shift::valid::from_index(operand::term::outer(x)),
+        shift::valid::from_index(x % 65536),
+    )
+}
+
+// The shifts `over` with the shift `s` folded in as the innermost one. Where two of the three are identities, as nearly always, that is
+// the third.
+fn fold(over: u64, s: u64) -> Folded
+    requires { ⌜ Over over × (validNumber s ≡ true) ⌝ }
+    ensures { λ r. ⌜ r ≡ foldedAs (pushValid (innerOf over) (outerOf over) (shiftAt s) 2) ⌝ }
+{
+    let i = operand::term::inner(over);
+    let o = operand::term::outer(over);
+    if o % 64 == 0 {
+        if i % 64 == 0 {
+            if s % 64 == 0 {
+                return Folded::Under(0);
+            }
+            return Folded::Under(65536 * s);
+        }
+        if s % 64 == 0 {
+            return Folded::Under(65536 * i);
+        }
+    }
+    fold_three(over + s)
+}
+
+// A term at the top. One that stands is written as it is.
 pub fn expand_term<'a>(
     old: &'a [u64],
     new: &'a [u64],
@@ -130,68 +230,26 @@ pub fn expand_term<'a>(
     alive: &[u64],
     out: &mut [u64],
     c: Cursor,
-    wire: Wire,
-    inner: Shift,
-    outer: Shift,
+    t: u64,
     below: usize,
 ) -> Cursor
     requires { ⌜ Readable (source (now old) (now new) (now rhss) (now table) (now decisions) (now alive)) ⌝ }
-    requires { ⌜ Within (inPlace (source (now old) (now new) (now rhss) (now table) (now decisions) (now alive))) below (wire .0) ⌝ }
-    requires { ⌜ Valid inner × Valid outer × (c .count ≤ length (now out)) ⌝ }
-    ensures { λ r. ⌜ spelt (now (out .exit)) r ≡ spell (source (now (old .entry)) (now (new .entry)) (now (rhss .entry)) (now (table .entry)) (now (decisions .entry)) (now (alive .entry))) below (under (wire .0) inner outer) (spelt (now (out .entry)) c) ⌝ }
-    ensures { λ r. ⌜ r .count ≤ length (now (out .entry)) ⌝ }
-{
-    expand_at(
-        old,
-        new,
-        rhss,
-        table,
-        decisions,
-        alive,
-        &mut *out,
-        c,
-        wire,
-        inner,
-        outer,
-        alive::pulled(inner, alive::pulled(outer, 0xffff_ffff_ffff_ffff)),
-        below,
-    )
-}
-
-// A term of which the mask takes in what gets through its shifts.
-fn expand_at<'a>(
-    old: &'a [u64],
-    new: &'a [u64],
-    rhss: &[u64],
-    table: &[u16],
-    decisions: &[u64],
-    alive: &[u64],
-    out: &mut [u64],
-    c: Cursor,
-    wire: Wire,
-    inner: Shift,
-    outer: Shift,
-    mask: u64,
-    below: usize,
-) -> Cursor
-    requires { ⌜ Readable (source (now old) (now new) (now rhss) (now table) (now decisions) (now alive)) ⌝ }
-    requires { ⌜ Within (inPlace (source (now old) (now new) (now rhss) (now table) (now decisions) (now alive))) below (wire .0) ⌝ }
-    requires { ⌜ Valid inner × Valid outer × (c .count ≤ length (now out)) ⌝ }
-    requires { ⌜ Sees mask inner outer ⌝ }
-    ensures { λ r. ⌜ spelt (now (out .exit)) r ≡ spell (source (now (old .entry)) (now (new .entry)) (now (rhss .entry)) (now (table .entry)) (now (decisions .entry)) (now (alive .entry))) below (under (wire .0) inner outer) (spelt (now (out .entry)) c) ⌝ }
-    ensures { λ r. ⌜ r .count ≤ length (now (out .entry)) ⌝ }
+    requires { ⌜ Within (inPlace (source (now old) (now new) (now rhss) (now table) (now decisions) (now alive))) below (termOf t .wire) ⌝ }
+    requires { ⌜ ShiftsOf (termOf t) × (c .count ≤ length (now out)) ⌝ }
+    ensures { λ r. ⌜ (spelt (now (out .exit)) r ≡ spell (source (now (old .entry)) (now (new .entry)) (now (rhss .entry)) (now (table .entry)) (now (decisions .entry)) (now (alive .entry))) below (termOf t) (spelt (now (out .entry)) c)) × (r .count ≤ length (now (out .entry))) ⌝ }
 {
     if c.full {
         return c;
     }
-    let node = inlined(table, decisions, wire);
+    let node = inlined(table, decisions, operand::term::wire(t));
     let Node::LinDef(d) = node else {
-        return put(&mut *out, c, wire, inner, outer);
+        return put(&mut *out, c, t);
     };
+    let mask = through(t);
     if is_dead(alive, d, mask) {
         return c;
     }
-    expand_operand(
+    let n = expand_operand(
         old,
         new,
         rhss,
@@ -199,16 +257,17 @@ fn expand_at<'a>(
         decisions,
         alive,
         &mut *out,
-        c,
+        c.count,
         d,
-        inner,
-        outer,
+        shifts(t),
         mask,
         below - 1,
-    )
+    );
+    cursor(out.len(), n)
 }
 
-// The terms of the definition `d`, each below the two shifts. What the mask does not take in writes nothing.
+// The terms of the definition `d`, each below the two shifts. What the mask does not take in writes nothing. Of the functions that call
+// each other this alone has two callers: a call, which hands on every slice, is made for each definition that is opened, none for a term.
 fn expand_operand<'a>(
     old: &'a [u64],
     new: &'a [u64],
@@ -217,25 +276,23 @@ fn expand_operand<'a>(
     decisions: &[u64],
     alive: &[u64],
     out: &mut [u64],
-    c: Cursor,
+    n: usize,
     d: LinDefId,
-    inner: Shift,
-    outer: Shift,
+    over: u64,
     mask: u64,
     below: usize,
-) -> Cursor
+) -> usize
     requires { ⌜ Readable (source (now old) (now new) (now rhss) (now table) (now decisions) (now alive)) ⌝ }
     requires { ⌜ Opens (source (now old) (now new) (now rhss) (now table) (now decisions) (now alive)) (d .0) ⌝ }
     requires { ⌜ All (λ (u : Term). Within (inPlace (source (now old) (now new) (now rhss) (now table) (now decisions) (now alive))) below (u .wire)) (rhsIn (now old) (now new) (now rhss) (d .0)) ⌝ }
-    requires { ⌜ Valid inner × Valid outer × (c .count ≤ length (now out)) ⌝ }
-    requires { ⌜ Sees mask inner outer ⌝ }
-    ensures { λ r. ⌜ spelt (now (out .exit)) r ≡ spellUnder (spell (source (now (old .entry)) (now (new .entry)) (now (rhss .entry)) (now (table .entry)) (now (decisions .entry)) (now (alive .entry))) below) inner outer (rhsIn (now (old .entry)) (now (new .entry)) (now (rhss .entry)) (d .0)) (spelt (now (out .entry)) c) ⌝ }
-    ensures { λ r. ⌜ r .count ≤ length (now (out .entry)) ⌝ }
+    requires { ⌜ Over over ⌝ }
+    requires { ⌜ Sees mask (innerOf over) (outerOf over) ⌝ }
+    ensures { λ r. ⌜ speltTo (now (out .exit)) r ≡ spellUnder (spell (source (now (old .entry)) (now (new .entry)) (now (rhss .entry)) (now (table .entry)) (now (decisions .entry)) (now (alive .entry))) below) (innerOf over) (outerOf over) (rhsIn (now (old .entry)) (now (new .entry)) (now (rhss .entry)) (d .0)) (speltTo (now (out .entry)) n) ⌝ }
 {
     let i = d.0 as usize;
     let ts = lower::operand_terms(old, new, rhss[i]);
     let ms = term_masks(alive, i, ts.len());
-    let mut cur = c;
+    let mut cur = n;
     let mut k = next_live(ms, 0, mask);
     while k < ts.len() {
         cur = expand_below(
@@ -248,8 +305,7 @@ fn expand_operand<'a>(
             &mut *out,
             cur,
             ts[k],
-            inner,
-            outer,
+            over,
             mask,
             below,
         );
@@ -258,7 +314,8 @@ fn expand_operand<'a>(
     cur
 }
 
-// One term of a definition, its shift folded in as the innermost one.
+// One term of a definition, its shift folded in as the innermost one. The mask takes in something of it, so a definition in its place is
+// not dead.
 fn expand_below<'a>(
     old: &'a [u64],
     new: &'a [u64],
@@ -267,43 +324,88 @@ fn expand_below<'a>(
     decisions: &[u64],
     alive: &[u64],
     out: &mut [u64],
-    c: Cursor,
+    n: usize,
     t: u64,
-    inner: Shift,
-    outer: Shift,
+    over: u64,
     mask: u64,
     below: usize,
-) -> Cursor
+) -> usize
     requires { ⌜ Readable (source (now old) (now new) (now rhss) (now table) (now decisions) (now alive)) ⌝ }
     requires { ⌜ Within (inPlace (source (now old) (now new) (now rhss) (now table) (now decisions) (now alive))) below (termOf t .wire) ⌝ }
-    requires { ⌜ (validNumber (termOf t .inner) ≡ true) × Valid inner × Valid outer × (c .count ≤ length (now out)) ⌝ }
-    requires { ⌜ Sees mask inner outer ⌝ }
-    ensures { λ r. ⌜ spelt (now (out .exit)) r ≡ writeDown (spell (source (now (old .entry)) (now (new .entry)) (now (rhss .entry)) (now (table .entry)) (now (decisions .entry)) (now (alive .entry))) below) (termOf t .wire) (pushValid inner outer (shiftAt (termOf t .inner)) 2) (spelt (now (out .entry)) c) ⌝ }
-    ensures { λ r. ⌜ r .count ≤ length (now (out .entry)) ⌝ }
+    requires { ⌜ validNumber (termOf t .inner) ≡ true ⌝ }
+    requires { ⌜ Over over ⌝ }
+    requires { ⌜ Sees mask (innerOf over) (outerOf over) ⌝ }
+    requires { ⌜ (bitAnd (look (now table) (now decisions) (now alive) (termOf t)) mask ≡ 0 → ⊥) ⌝ }
+    ensures { λ r. ⌜ speltTo (now (out .exit)) r ≡ writeDown (spell (source (now (old .entry)) (now (new .entry)) (now (rhss .entry)) (now (table .entry)) (now (decisions .entry)) (now (alive .entry))) below) (termOf t .wire) (pushValid (innerOf over) (outerOf over) (innerOf t) 2) (speltTo (now (out .entry)) n) ⌝ }
 {
-    let s = shift::valid::from_index(operand::term::inner(t));
+    let s = operand::term::inner(t);
+    let f = fold(over, s);
+    let Folded::Under(x) = f else {
+        return n;
+    };
     let wire = operand::term::wire(t);
-    match operand::valid::push_inner(inner, outer, s, 2) {
-        PushInner::Seq(i, o) => {
-            expand_at(
-                old,
-                new,
-                rhss,
-                table,
-                decisions,
-                alive,
-                &mut *out,
-                c,
-                wire,
-                i,
-                o,
-                alive::pulled(s, mask),
-                below,
-            )
-        }
-        PushInner::Zero => c,
-        PushInner::OverBudget => c,
+    let node = inlined(table, decisions, wire);
+    let Node::LinDef(d) = node else {
+        return put_below(&mut *out, n, x + wire.0 as u64);
+    };
+    expand_at(
+        old,
+        new,
+        rhss,
+        table,
+        decisions,
+        alive,
+        &mut *out,
+        n,
+        d,
+        s,
+        x,
+        mask,
+        below,
+    )
+}
+
+// The definition `d` in the place of a term with the shift `s`. Once the store is full nothing is done.
+fn expand_at<'a>(
+    old: &'a [u64],
+    new: &'a [u64],
+    rhss: &[u64],
+    table: &[u16],
+    decisions: &[u64],
+    alive: &[u64],
+    out: &mut [u64],
+    n: usize,
+    d: LinDefId,
+    s: u64,
+    over: u64,
+    mask: u64,
+    below: usize,
+) -> usize
+    requires { ⌜ Readable (source (now old) (now new) (now rhss) (now table) (now decisions) (now alive)) ⌝ }
+    requires { ⌜ Opens (source (now old) (now new) (now rhss) (now table) (now decisions) (now alive)) (d .0) ⌝ }
+    requires { ⌜ (0 < below) × All (λ (u : Term). Within (inPlace (source (now old) (now new) (now rhss) (now table) (now decisions) (now alive))) (below - 1) (u .wire)) (rhsIn (now old) (now new) (now rhss) (d .0)) ⌝ }
+    requires { ⌜ validNumber s ≡ true ⌝ }
+    requires { ⌜ Over over ⌝ }
+    requires { ⌜ Sees (pull s mask) (innerOf over) (outerOf over) ⌝ }
+    ensures { λ r. ⌜ speltTo (now (out .exit)) r ≡ spellUnder (spell (source (now (old .entry)) (now (new .entry)) (now (rhss .entry)) (now (table .entry)) (now (decisions .entry)) (now (alive .entry))) (below - 1)) (innerOf over) (outerOf over) (rhsIn (now (old .entry)) (now (new .entry)) (now (rhss .entry)) (d .0)) (speltTo (now (out .entry)) n) ⌝ }
+{
+    if out.len() < n {
+        return n;
     }
+    expand_operand(
+        old,
+        new,
+        rhss,
+        table,
+        decisions,
+        alive,
+        &mut *out,
+        n,
+        d,
+        over,
+        pull(s, mask),
+        below - 1,
+    )
 }
 
 // The mask of a term of a definition.

@@ -14,3 +14,9 @@ pub struct Progress {
     pub cursor: Cursor,
     pub at: usize,
 }
+
+// What a fold leaves: the two shifts, spelt as in a term with no wire, or nothing.
+pub enum Folded {
+    Under(u64),
+    Nothing,
+}

@@ -62,43 +62,6 @@ pub fn row_names<'a>(old: &'a [u64], new: &'a [u64], row: &[u64], table: &[u16])
     false
 }
 
-// A term of a constraint, its shifts as they are spelt.
-fn expand_root<'a>(
-    old: &'a [u64],
-    new: &'a [u64],
-    rhss: &[u64],
-    table: &[u16],
-    decisions: &[u64],
-    alive: &[u64],
-    out: &mut [u64],
-    c: Cursor,
-    t: u64,
-    below: usize,
-) -> Cursor
-    requires { ⌜ Readable (source (now old) (now new) (now rhss) (now table) (now decisions) (now alive)) ⌝ }
-    requires { ⌜ ((w : ℕ) → Within (inPlace (source (now old) (now new) (now rhss) (now table) (now decisions) (now alive))) below w) ⌝ }
-    requires { ⌜ ShiftsOf (termOf t) × (c .count ≤ length (now out)) ⌝ }
-    ensures { λ r. ⌜ (spelt (now (out .exit)) r ≡ spell (source (now (old .entry)) (now (new .entry)) (now (rhss .entry)) (now (table .entry)) (now (decisions .entry)) (now (alive .entry))) below (termOf t) (spelt (now (out .entry)) c)) × (r .count ≤ length (now (out .entry))) ⌝ }
-{
-    let inner = shift::valid::from_index(operand::term::inner(t));
-    let outer = shift::valid::from_index(operand::term::outer(t));
-    let wire = operand::term::wire(t);
-    crate::expand::expand_term(
-        old,
-        new,
-        rhss,
-        table,
-        decisions,
-        alive,
-        &mut *out,
-        c,
-        wire,
-        inner,
-        outer,
-        below,
-    )
-}
-
 // An operand of a constraint, or the right side of a committed definition.
 pub fn process_operand<'a>(
     old: &'a [u64],
@@ -121,7 +84,7 @@ pub fn process_operand<'a>(
     let mut cur = c;
     let mut k = 0;
     while k < ts.len() {
-        cur = expand_root(
+        cur = crate::expand::expand_term(
             old,
             new,
             rhss,

@@ -25,15 +25,15 @@ operand-terms-requires c κs = c .before .before .before .before .before .before
 loop-holds : tie.Need-loop-holds Inv-loop μ-loop
 loop-holds c = let s = c .before .before .before .before .before .before .before .before in (omega arith, refl, s .pre .1 .1 .1, refl)
 
-mul-expand-root : tie.Need-mul-expand-root Inv-loop μ-loop
-mul-expand-root c = search needs
+mul-expand-term : tie.Need-mul-expand-term Inv-loop μ-loop
+mul-expand-term c = search needs
 
-shared-slice-read-expand-root : tie.Need-shared-slice-read-expand-root Inv-loop μ-loop
-shared-slice-read-expand-root c = search needs
+shared-slice-read-expand-term : tie.Need-shared-slice-read-expand-term Inv-loop μ-loop
+shared-slice-read-expand-term c = search needs
 
-expand-root-requires : tie.Need-expand-root-requires Inv-loop μ-loop
-expand-root-requires c κs = let s = c .before .before .before .before .before .before .before .before .before .before .before .before in let l = c .before .before .before .loop in
-    (s .pre .0, (s .pre .1 .0, (operand-read ShiftsOf (s .args .old .now) (s .args .new .now) (c .before .before .before .before .operand-terms .result .now) (s .args .h) (l .k) (c .before .before .before .before .operand-terms .ensures) (s .pre .1 .1 .0 .1) (c .before .before .loop-test .taken), omega (arith, l .inv .1, l .inv .2))))
+expand-term-requires : tie.Need-expand-term-requires Inv-loop μ-loop
+expand-term-requires c κs = let s = c .before .before .before .before .before .before .before .before .before .before .before .before in let l = c .before .before .before .loop in
+    (s .pre .0, (s .pre .1 .0 _, (operand-read ShiftsOf (s .args .old .now) (s .args .new .now) (c .before .before .before .before .operand-terms .result .now) (s .args .h) (l .k) (c .before .before .before .before .operand-terms .ensures) (s .pre .1 .1 .0 .1) (c .before .before .loop-test .taken), omega (arith, l .inv .1, l .inv .2))))
 
 add-k : tie.Need-add-k Inv-loop μ-loop
 add-k c = search needs
@@ -42,7 +42,7 @@ loop-less : tie.Need-loop-less Inv-loop μ-loop
 loop-less c = search needs
 
 loop-again : tie.Need-loop-again Inv-loop μ-loop
-loop-again c = let s = c .before .before .before .before .before .before .before .before .before .before .before .before .before .before .before in let l = c .before .before .before .before .before .before .loop in let b = c .before .before .expand-root in
+loop-again c = let s = c .before .before .before .before .before .before .before .before .before .before .before .before .before .before .before in let l = c .before .before .before .before .before .before .loop in let b = c .before .before .expand-term in
     let q : Source = source (s .args .old .now) (s .args .new .now) (s .args .rhss .now) (s .args .table .now) (s .args .decisions .now) (s .args .alive .now) in (
       omega (arith, c .before .before .before .before .before .loop-test .taken),
       b .kept .1 .1 .1 .1 .1 .1 .0 ∙ l .inv .1,
@@ -70,9 +70,9 @@ process-operand-spec =
     μ-loop
     operand-terms-requires
     loop-holds
-    mul-expand-root
-    shared-slice-read-expand-root
-    expand-root-requires
+    mul-expand-term
+    shared-slice-read-expand-term
+    expand-term-requires
     add-k
     loop-less
     loop-again
