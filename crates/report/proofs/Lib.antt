@@ -2,3 +2,4 @@ pub mod Decimals
 pub mod Putting
 pub mod Coming
 pub mod Filing
+pub mod Once

@@ -1,0 +1,25 @@
+// Reads a house file from standard input, and prints what fusing it comes to on one line: `refused N`, or `ok` and nine counts.
+use house_write::Written;
+use libc::STDIN_FILENO;
+use libc::STDOUT_FILENO;
+
+// One more than `report` takes: a longer file is told from one that is as long as it may be.
+const MAX_READ: usize = 65537;
+
+fn print(line: &[u8]) {
+    if io::write_all(STDOUT_FILENO, line) {
+        return;
+    }
+    os::fail(b"fusereport: standard output");
+}
+
+fn main() {
+    let mut input = [0u8; MAX_READ];
+    let n = io::read_full(STDIN_FILENO, &mut input);
+    let mut line = [0u8; 256];
+    let answer = report::report(&input[0..n], &mut line);
+    let Written::Done { length } = answer else {
+        return;
+    };
+    print(&line[0..length]);
+}
