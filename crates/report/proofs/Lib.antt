@@ -3,3 +3,4 @@ pub mod Putting
 pub mod Coming
 pub mod Filing
 pub mod Once
+pub mod Theorem

@@ -1,9 +1,8 @@
 -- One line, one file, one list: no second answer satisfies a contract. Assumes nothing.
 use mathlib.Core.Path.{_≡_, refl, sym, ap, _∙_, subst}
-use Prim.Native.Nat.{ℕ, _≤_, _<_}
+use Prim.Native.Nat.{ℕ}
 use native.Mathlib.Omega.{arith}
 use mathlib.Core.List.{List}
-use lib.ListN.{length}
 use Rattle.word.specs.Answers as T
 use Rattle.word.specs.Answers.{Told}
 use Rattle.lower.specs.declared.Sizes.{Sizes}
@@ -15,7 +14,6 @@ use Rattle.house_write.specs.declared.Written.{Written}
 use Rattle.house_write.specs.declared.Written.the-variants as W
 use Rattle.house_write.specs.Write.{WriteIs}
 use Rattle.house_write.proofs.Once.{write-once}
-use Rattle.fusion.specs.declared.Counts.{Counts}
 use Rattle.fusion.specs.declared.Fused.the-variants as F
 use Rattle.fusion.specs.Left.{Lent, lent, output}
 use Rattle.fusion.specs.Answer.{toldFused, Fuses}
@@ -28,7 +26,7 @@ use Rattle.report.specs.Committed.{Lines, many, few}
 use Rattle.report.specs.Outcome.{made, ReadLent, Comes, unread, unfused, fused, toldOutcome}
 use Rattle.report.specs.Report.{RESULT_TERMS, lineOf, Answered, Reports, long, answers, Reported}
 use Rattle.report.specs.File as L
-use Rattle.report.specs.File.{after, toldFile, WritesOut, FusesBytes, FusesFile}
+use Rattle.report.specs.File.{after, toldFile, WritesOut, FusesFile}
 use Rattle.report.proofs.Coming.{told-once}
 
 -- ---- reading and fusing
@@ -42,7 +40,7 @@ read-lent-once {bytes} {l} {l₁} {l₂} {r₁} {r₂} a b =
     let s = read-once r₁ r₂ _ _ _ _ _ _ _ _ _ _ _ _ _ _ (a .reads) (b .reads) in (
       s .answers,
       same-lent _ _ _ _ _ _ _ _ _ _ _ _ _ _ _ _ _ _ (s .terms-same) (a .new-same ∙ sym (b .new-same)) (s .ands-same) (s .imuls-same) (s .bmuls-same) (s .zeros-same) (s .dsts-same) (s .rhss-same)
-      (a .flags-same ∙ sym (b .flags-same)),
+          (a .flags-same ∙ sym (b .flags-same)),
     )
 
 module _ (slots : ℕ) where
