@@ -13,10 +13,21 @@ fn print(line: &[u8]) {
     os::fail(b"fusereport: standard output");
 }
 
+// Whether reading stopped at an error: at the end a further read answers 0.
+fn is_cut() -> bool {
+    let mut one = [0u8; 1];
+    libc::read(STDIN_FILENO, &mut one) < 0
+}
+
 fn main() {
     let mut input = [0u8; MAX_READ];
     let n = io::read_full(STDIN_FILENO, &mut input);
-    let mut line = [0u8; 256];
+    if n < MAX_READ {
+        if is_cut() {
+            os::fail(b"fusereport: standard input");
+        }
+    }
+    let mut line = [0u8; 512];
     let answer = report::report(&input[0..n], &mut line);
     let Written::Done { length } = answer else {
         return;

@@ -21,6 +21,7 @@ use Rattle.house_file.specs.Reading.{ROOM, total, readOf}
 use Rattle.house_file.specs.declared.Read.the-variants as R
 use Rattle.house_read.specs.Answer.{ReadIs}
 use Rattle.house_read.proofs.Backs.{answered, read-back}
+use Rattle.house_write.specs.declared.Written.{Written}
 use Rattle.house_write.specs.declared.Written.the-variants as W
 use Rattle.house_write.specs.Write.{WriteIs}
 use Rattle.house_write.proofs.Once.{is-written}
@@ -37,7 +38,8 @@ use Rattle.fusion.proofs.System.{sets-front, take-front, room}
 use Rattle.report.specs.declared.outcome.Outcome.{Outcome}
 use Rattle.report.specs.declared.outcome.Outcome.the-variants as O
 use Rattle.report.specs.Outcome as C
-use Rattle.report.specs.Text.{okText, Puts}
+use Rattle.report.specs.Text.{okText, linesText, Puts}
+use Rattle.report.specs.Committed.{committedFrom, Lines, many, few}
 use Rattle.report.specs.Outcome.{made, Comes, nineOf, toldOutcome}
 use Rattle.report.specs.Report.{RESULT_TERMS, lineOf, Answered}
 use Rattle.report.specs.declared.FuseFile.{FuseFile}
@@ -283,16 +285,21 @@ module _ (slots : ℕ) (bytes out flags : List ℕ) (n w : ℕ) where
 
 -- ---- a text that was put
 
-pub puts-front : {text out out′ : List ℕ} {n : ℕ} → Puts text out (W.Done n) out′ → (take n out′ ≡ text) × (drop n out′ ≡ drop n out) × (n ≤ length out′)
-puts-front {text} {out} {out′} {n} a = go (leb (length text) (length out)) refl (a .answer) (a .bytes-are)
-  where
-    go : (b : Bool) → leb (length text) (length out) ≡ b → W.Done n ≡ cond b (W.Done (length text)) (W.Refused ROOM) → out′ ≡ cond b (sets out 0 text) out
-        → (take n out′ ≡ text) × (drop n out′ ≡ drop n out) × (n ≤ length out′)
-    go true e p q =
-        let k : length text ≡ n = cc in
-        let h : n ≤ length out = omega (arith, leb-true (length text) (length out) e) in (
-          ap (take n) q ∙ take-front text out n k h,
-          ap (drop n) q ∙ drop-front text out n k h,
-          omega (arith, h, ap length q, length-sets out 0 text),
-        )
-    go false e p q = absurd (let x : _≡_ {A = ℕ} 0 1 = cc in omega arith)
+module _ {text out out′ : List ℕ} where
+  pub puts-front : {r : Written} (n : ℕ) → r ≡ W.Done n → Puts text out r out′ → (take n out′ ≡ text) × (drop n out′ ≡ drop n out) × (n ≤ length out′)
+  puts-front {r} n i a = go (leb (length text) (length out)) refl (sym i ∙ a .answer) (a .bytes-are)
+    where
+      go : (b : Bool) → leb (length text) (length out) ≡ b → W.Done n ≡ cond b (W.Done (length text)) (W.Refused ROOM) → out′ ≡ cond b (sets out 0 text) out
+          → (take n out′ ≡ text) × (drop n out′ ≡ drop n out) × (n ≤ length out′)
+      go true e p q =
+          let k : length text ≡ n = cc in
+          let h : n ≤ length out = omega (arith, leb-true (length text) (length out) e) in (
+            ap (take n) q ∙ take-front text out n k h,
+            ap (drop n) q ∙ drop-front text out n k h,
+            omega (arith, h, ap length q, length-sets out 0 text),
+          )
+      go false e p q = absurd (let x : _≡_ {A = ℕ} 0 1 = cc in omega arith)
+
+pub lines-front : {flags out out′ : List ℕ} {r : Written} (n : ℕ) → r ≡ W.Done n → Lines flags out r out′ → (take n out′ ≡ linesText (committedFrom 0 flags)) × (drop n out′ ≡ drop n out) × (n ≤ length out′)
+lines-front n e (many h) = absurd (let x : _≡_ {A = ℕ} 0 1 = cc in omega arith)
+lines-front n e (few h a) = puts-front n e a
