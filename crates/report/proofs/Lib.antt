@@ -4,3 +4,4 @@ pub mod Coming
 pub mod Filing
 pub mod Once
 pub mod Theorem
+pub mod Example
