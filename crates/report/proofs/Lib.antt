@@ -5,3 +5,4 @@ pub mod Filing
 pub mod Once
 pub mod Theorem
 pub mod Example
+pub mod Long

@@ -1,20 +1,21 @@
 -- The same in 01's words: the system that the file says is patched, counted and written. Assumes nothing.
-use mathlib.Core.Path.{_≡_, refl, sym, ap, _∙_, subst}
+use mathlib.Core.Path.{_≡_, refl, sym, ap, ap₂, _∙_, subst}
 use Prim.Native.Nat.{ℕ, zero, suc, _+_, _-_, _≤_}
 use native.Mathlib.Omega.{arith}
 use mathlib.Core.Bool.{Bool, true, false, cond}
 use lib.Dec.{leb}
-use mathlib.Core.List.{List, [], _∷_}
+use mathlib.Core.List.{List, [], _∷_, _++_, map}
 use lib.ListN.{length, take, drop, length-map, length-append}
 use lib.Seq.{sets, drop-at, length-sets}
 use borrow.Author.Tests.{leb-true}
 use Rattle.word.specs.Answers as T
 use Rattle.operand.specs.Numbers.{operandOf}
 use Rattle.lower.specs.declared.Sizes.{Sizes}
+use Rattle.lower.specs.Lists.{keep}
 use Rattle.lower.specs.Model.{System}
 use Rattle.lower.specs.Accepted.{Accepted}
 use Rattle.lower.specs.Stores.{systemOf}
-use Rattle.lower.proofs.Laws.{rows-length}
+use Rattle.lower.proofs.Laws.{map-join, rows-length}
 use Rattle.house_file.specs.Format.{systemFrom, fileOf}
 use Rattle.house_file.specs.Decoding.{entriesAt}
 use Rattle.house_file.specs.Reading.{ROOM, total, readOf}
@@ -45,6 +46,7 @@ use Rattle.report.specs.Report.{RESULT_TERMS, lineOf, Answered}
 use Rattle.report.specs.declared.FuseFile.{FuseFile}
 use Rattle.report.specs.declared.FuseFile.the-variants.{Done}
 use Rattle.report.specs.File.{after, WritesOut, unread, unfused, short, unwritten, written, FusesFile, long, looked}
+use Rattle.report.proofs.Putting.{committed-append}
 use Rattle.report.proofs.Coming.{FusedDone, fused-done, done-counts}
 
 -- the system that the bytes say, z being what they count
@@ -303,3 +305,37 @@ module _ {text out out′ : List ℕ} where
 pub lines-front : {flags out out′ : List ℕ} {r : Written} (n : ℕ) → r ≡ W.Done n → Lines flags out r out′ → (take n out′ ≡ linesText (committedFrom 0 flags)) × (drop n out′ ≡ drop n out) × (n ≤ length out′)
 lines-front n e (many h) = absurd (let x : _≡_ {A = ℕ} 0 1 = cc in omega arith)
 lines-front n e (few h a) = puts-front n e a
+
+-- ---- the committed wires
+
+keep-append : (c : ℕ → Bool) (a b : List ℕ) → keep c (a ++ b) ≡ keep c a ++ keep c b
+keep-append c [] b = refl
+keep-append c (x ∷ a) b = go (c x) (keep-append c a b)
+  where
+    go : (t : Bool) → keep c (a ++ b) ≡ keep c a ++ keep c b → cond t (x ∷ keep c (a ++ b)) (keep c (a ++ b)) ≡ cond t (x ∷ keep c a) (keep c a) ++ keep c b
+    go true e = ap (λ (l : List ℕ). x ∷ l) e
+    go false e = e
+
+flag-of : (t : Bool) (n : ℕ) → committedFrom n (cond t 1 0 ∷ []) ≡ cond t (n ∷ []) []
+unfolding committedFrom
+flag-of true n = refl
+flag-of false n = refl
+
+committed-none : committedFrom 0 [] ≡ []
+unfolding committedFrom
+committed-none = refl
+
+flags-from : (c : ℕ → Bool) (n : ℕ) → committedFrom 0 (map (λ (w : ℕ). cond (c w) 1 0) (upTo n)) ≡ keep c (upTo n)
+flags-from c zero = committed-none
+flags-from c (suc n) =
+    let f : ℕ → ℕ = λ w. cond (c w) 1 0 in
+    let m : 0 + length (map f (upTo n)) ≡ n = omega (arith, length-map (upTo n) f, upTo-length n) in
+    ap (committedFrom 0) (map-join f (upTo n) (n ∷ []))
+    ∙ committed-append 0 (map f (upTo n)) (f n ∷ [])
+    ∙ ap₂ (λ (a b : List ℕ). a ++ b) (flags-from c n) (ap (λ (k : ℕ). committedFrom k (f n ∷ [])) m ∙ flag-of (c n) n)
+    ∙ sym (keep-append c (upTo n) (n ∷ []))
+
+-- "the committed set is listed by rising wire number"
+pub committed-flags : (p : System) (c : ℕ → Bool) → committedFrom 0 (flagsOf p c) ≡ keep c (upTo (p .wires))
+unfolding flagsOf
+committed-flags p c = flags-from c (p .wires)
