@@ -2,6 +2,8 @@
 // refusal goes to standard error, and nothing to standard output.
 //
 //   fuse [1|2] [committed]     slots, 2 if not given
+ghost use lib.ListN.{length};
+ghost use Rattle.fuse.specs.Printed.{Covers};
 use asked::Asked;
 use house_write::Written;
 use libc::STDERR_FILENO;
@@ -48,7 +50,9 @@ fn print_committed(flags: &[u8]) {
     }
 }
 
-fn print_answer(answer: FuseFile, out: &[u8], flags: &[u8], is_committed: bool) {
+fn print_answer(answer: FuseFile, out: &[u8], flags: &[u8], is_committed: bool)
+    requires { ⌜ Covers answer (length (now out)) (length (now flags)) ⌝ }
+{
     match answer {
         FuseFile::Refused { number } => refused(number),
         FuseFile::Unread { number, at } => refused_at(number, at),
