@@ -54,7 +54,7 @@ pub record FusedDone (slots : ℕ) (z : Sizes) (l l′ : Lent) (k : Counts) : Ty
   pub patched : Patches slots z l l′ st
   pub counts : k ≡ countsOf (fused z l) (commitSet (fused z l) st)
 
-told-once : (k n : Counts) → toldFused (F.Done k) ≡ toldFused (F.Done n) → k ≡ n
+pub told-once : (k n : Counts) → toldFused (F.Done k) ≡ toldFused (F.Done n) → k ≡ n
 unfolding toldFused
 told-once k n e = same (k .gone) (k .stranded) (k .committed) (k .written) (k .kept) (n .gone) (n .stranded) (n .committed) (n .written) (n .kept) (cc) (cc) (cc) (cc) (cc)
   where

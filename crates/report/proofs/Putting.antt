@@ -96,7 +96,7 @@ unfolding linesText
 lines-append [] b = refl
 lines-append (v ∷ a) b = ap (λ (l : List ℕ). lineText v ++ l) (lines-append a b) ∙ sym (append-assoc (lineText v) (linesText a) (linesText b))
 
-committed-append : (i : ℕ) (a b : List ℕ) → committedFrom i (a ++ b) ≡ committedFrom i a ++ committedFrom (i + length a) b
+pub committed-append : (i : ℕ) (a b : List ℕ) → committedFrom i (a ++ b) ≡ committedFrom i a ++ committedFrom (i + length a) b
 unfolding committedFrom
 committed-append i [] b = ap (λ (k : ℕ). committedFrom k b) (let e : i ≡ i + 0 = omega arith in e)
 committed-append i (f ∷ a) b = go (eqb f 0) (committed-append (suc i) a b ∙ ap (λ (k : ℕ). committedFrom (suc i) a ++ committedFrom k b) (let e : suc i + length a ≡ i + suc (length a) = omega arith in e))

@@ -8,12 +8,13 @@
 --   PutsAt text          the text is put at a place, a byte past the end being dropped; the place after it
 --   Puts text            what is answered and left where a text is put into lent bytes: its length, and the text at their front; where they
 --                        are too few, 12, and they stay as they were
+--   Enough k out r       with k lent bytes and more the answer is no refusal
 --
 -- `sets l i vs` is the list l with vs stored from place i on.
 --
 -- Assumes nothing.
 use mathlib.Core.Path.{_≡_}
-use Prim.Native.Nat.{ℕ, _+_}
+use Prim.Native.Nat.{ℕ, _+_, _≤_}
 use mathlib.Core.Bool.{cond}
 use mathlib.Core.List.{List, [], _∷_, _++_, map}
 use lib.Dec.{leb}
@@ -71,3 +72,10 @@ pub record PutsAt (text out : List ℕ) (at after : ℕ) (out′ : List ℕ) : T
 pub record Puts (text out : List ℕ) (r : Written) (out′ : List ℕ) : Type 0 where
   pub answer : r ≡ cond (leb (length text) (length out)) (Done (length text)) (Refused ROOM)
   pub bytes-are : out′ ≡ cond (leb (length text) (length out)) (sets out 0 text) out
+
+abbrev pub Given : Written → Type 0
+Given (Done n) = Unit {0}
+Given (Refused number) = ⊥
+
+abbrev pub Enough : ℕ → List ℕ → Written → Type 0
+Enough k out r = k ≤ length out → Given r

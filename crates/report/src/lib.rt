@@ -4,7 +4,7 @@ ghost use Prim.Native.Nat.{_≤_};
 ghost use lib.ListN.{length, take};
 ghost use lib.Seq.{sets};
 ghost use Rattle.fusion.specs.Left.{lent};
-ghost use Rattle.report.specs.Text.{refusedText, refusedAtText, okText, Puts};
+ghost use Rattle.report.specs.Text.{refusedText, refusedAtText, okText, Puts, Enough};
 ghost use Rattle.report.specs.Committed.{Lines};
 ghost use Rattle.report.specs.Outcome.{nineOf, toldOutcome};
 ghost use Rattle.report.specs.Steps.{Tallied, fileBy, flagsBy};
@@ -39,6 +39,7 @@ pub enum FuseFile {
 // `refused N` and a newline.
 pub fn refused_line(number: u8, out: &mut [u8]) -> Written
     ensures { λ r. ⌜ Puts (refusedText number) (now (out .entry)) r (now (out .exit)) ⌝ }
+    ensures { λ r. ⌜ Enough 29 (now (out .entry)) r ⌝ }
 {
     let mut none = [0u8; 1];
     let n = text::put_refused(number as usize, &mut none);
@@ -54,6 +55,7 @@ pub fn refused_line(number: u8, out: &mut [u8]) -> Written
 // `refused N at OFFSET` and a newline.
 pub fn refused_at_line(number: u8, at: usize, out: &mut [u8]) -> Written
     ensures { λ r. ⌜ Puts (refusedAtText number at) (now (out .entry)) r (now (out .exit)) ⌝ }
+    ensures { λ r. ⌜ Enough 53 (now (out .entry)) r ⌝ }
 {
     let mut none = [0u8; 1];
     let n = text::put_refused_at(number as usize, at, &mut none);
@@ -69,6 +71,7 @@ pub fn refused_at_line(number: u8, at: usize, out: &mut [u8]) -> Written
 // The wires whose flag is not 0, rising, each on a line of its own.
 pub fn committed_lines(flags: &[u8], out: &mut [u8]) -> Written
     ensures { λ r. ⌜ Lines (now (flags .entry)) (now (out .entry)) r (now (out .exit)) ⌝ }
+    ensures { λ r. ⌜ (length (now (flags .entry)) ≤ 4096 → Enough 86016 (now (out .entry)) r) ⌝ }
 {
     if lower::MAX_WIRES < flags.len() {
         return Written::Refused {
@@ -90,6 +93,7 @@ pub fn committed_lines(flags: &[u8], out: &mut [u8]) -> Written
 fn ok_line(vs: &[usize], out: &mut [u8]) -> Written
     requires { ⌜ length (now vs) ≤ 16 ⌝ }
     ensures { λ r. ⌜ Puts (okText (now (vs .entry))) (now (out .entry)) r (now (out .exit)) ⌝ }
+    ensures { λ r. ⌜ Enough 339 (now (out .entry)) r ⌝ }
 {
     let mut none = [0u8; 1];
     let n = text::put_ok(vs, &mut none);
@@ -105,6 +109,7 @@ fn ok_line(vs: &[usize], out: &mut [u8]) -> Written
 fn fused_line(z: Sizes, k: Counts, out: &mut [u8]) -> Written
     requires { ⌜ k .gone ≤ z .linears ⌝ }
     ensures { λ r. ⌜ Puts (okText (nineOf z k)) (now (out .entry)) r (now (out .exit)) ⌝ }
+    ensures { λ r. ⌜ Enough 339 (now (out .entry)) r ⌝ }
 {
     let vs = [
         z.ands,
@@ -123,6 +128,7 @@ fn fused_line(z: Sizes, k: Counts, out: &mut [u8]) -> Written
 fn outcome_line(o: Outcome, out: &mut [u8]) -> Written
     requires { ⌜ Tallied o ⌝ }
     ensures { λ r. ⌜ Puts (lineOf (toldOutcome o)) (now (out .entry)) r (now (out .exit)) ⌝ }
+    ensures { λ r. ⌜ Enough 339 (now (out .entry)) r ⌝ }
 {
     match o {
         Outcome::Unread { number, at: _ } => refused_line(number, out),
@@ -162,6 +168,7 @@ fn answer(input: &[u8]) -> Outcome
 // The line of `fusereport` for a house file.
 pub fn report(input: &[u8], out: &mut [u8]) -> Written
     ensures { λ r. ⌜ Reported (now (input .entry)) (now (out .entry)) r (now (out .exit)) ⌝ }
+    ensures { λ r. ⌜ Enough 339 (now (out .entry)) r ⌝ }
 {
     if MAX_INPUT < input.len() {
         return refused_line(lower::FULL, out);

@@ -69,6 +69,7 @@ fn put_values(vs: &[usize], out: &mut [u8], at: usize) -> usize
 pub fn put_ok(vs: &[usize], out: &mut [u8]) -> usize
     requires { ⌜ length (now vs) ≤ 16 ⌝ }
     ensures { λ r. ⌜ PutsAt (okText (now (vs .entry))) (now (out .entry)) 0 r (now (out .exit)) ⌝ }
+    ensures { λ r. ⌜ r ≤ 339 ⌝ }
 {
     let p = put(b"ok", out, 0);
     let q = put_values(vs, out, p);
@@ -77,6 +78,7 @@ pub fn put_ok(vs: &[usize], out: &mut [u8]) -> usize
 
 pub fn put_refused(number: usize, out: &mut [u8]) -> usize
     ensures { λ r. ⌜ PutsAt (refusedText number) (now (out .entry)) 0 r (now (out .exit)) ⌝ }
+    ensures { λ r. ⌜ r ≤ 29 ⌝ }
 {
     let p = put(b"refused ", out, 0);
     let q = put_decimal(number, out, p);
@@ -85,6 +87,7 @@ pub fn put_refused(number: usize, out: &mut [u8]) -> usize
 
 pub fn put_refused_at(number: usize, offset: usize, out: &mut [u8]) -> usize
     ensures { λ r. ⌜ PutsAt (refusedAtText number offset) (now (out .entry)) 0 r (now (out .exit)) ⌝ }
+    ensures { λ r. ⌜ r ≤ 53 ⌝ }
 {
     let p = put(b"refused ", out, 0);
     let q = put_decimal(number, out, p);
@@ -109,6 +112,7 @@ fn put_flag(flag: u8, wire: usize, out: &mut [u8], at: usize) -> usize
 pub fn put_lines(flags: &[u8], out: &mut [u8]) -> usize
     requires { ⌜ length (now flags) ≤ 4096 ⌝ }
     ensures { λ r. ⌜ PutsAt (linesText (committedFrom 0 (now (flags .entry)))) (now (out .entry)) 0 r (now (out .exit)) ⌝ }
+    ensures { λ r. ⌜ r ≤ 86016 ⌝ }
 {
     let mut i = 0;
     let mut p = 0;

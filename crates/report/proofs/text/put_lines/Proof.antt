@@ -38,7 +38,7 @@ same-length : tie.Need-same-length Inv-loop μ-loop
 same-length c = search needs
 
 returns : tie.Need-returns Inv-loop μ-loop
-returns c = lines-all _ _ (c .loop-test .left) (c .before .loop .inv .0)
+returns c = (lines-all _ _ (c .loop-test .left) (c .before .loop .inv .0), omega (arith, c .before .loop .inv, c .before .before .before .before .pre))
 
 pub put-lines-spec : {M : Type 1} → statement M
 put-lines-spec =

@@ -1,4 +1,5 @@
 -- Three texts, one after the other. Assumes nothing.
+use native.Mathlib.Omega.{arith}
 use Rattle.report.proofs.Putting.{ok-text}
 use borrow.Author.Needs.{needs}
 use Rattle.report.proofs.text.put_ok.Statement.{statement}
@@ -23,7 +24,7 @@ same-length : tie.Need-same-length
 same-length c = search needs
 
 returns : tie.Need-returns
-returns c = ok-text _ (c .before .before .before .before .before .before .before .before .before .before .before .put .ensures) (c .before .before .before .before .before .before .before .put-values .ensures .0) (c .before .before .put2 .ensures)
+returns c = (ok-text _ (c .before .before .before .before .before .before .before .before .before .before .before .put .ensures) (c .before .before .before .before .before .before .before .put-values .ensures .0) (c .before .before .put2 .ensures), omega (arith, c .before .before .before .before .before .before .before .before .before .before .before .put .ensures, c .before .before .before .before .before .before .before .put-values .ensures .1, c .before .before .put2 .ensures))
 
 pub put-ok-spec : {M : Type 1} → statement M
 put-ok-spec =

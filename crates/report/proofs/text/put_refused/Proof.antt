@@ -1,4 +1,5 @@
 -- Three texts, one after the other. Assumes nothing.
+use native.Mathlib.Omega.{arith}
 use Rattle.report.proofs.Putting.{refused-text}
 use borrow.Author.Needs.{needs}
 use Rattle.report.proofs.text.put_refused.Statement.{statement}
@@ -17,13 +18,13 @@ slice-aggregate-put-2 : tie.Need-slice-aggregate-put-2
 slice-aggregate-put-2 c = search needs
 
 put-requires-2 : tie.Need-put-requires-2
-put-requires-2 c κs = search needs
+put-requires-2 c κs = (omega arith, omega (arith, c .before .before .before .before .put-decimal .ensures .1, c .before .before .before .before .before .before .before .before .put .ensures))
 
 same-length : tie.Need-same-length
 same-length c = search needs
 
 returns : tie.Need-returns
-returns c = refused-text _ (c .before .before .before .before .before .before .before .before .before .before .before .put .ensures) (c .before .before .before .before .before .before .before .put-decimal .ensures .0) (c .before .before .put2 .ensures)
+returns c = (refused-text _ (c .before .before .before .before .before .before .before .before .before .before .before .put .ensures) (c .before .before .before .before .before .before .before .put-decimal .ensures .0) (c .before .before .put2 .ensures), omega (arith, c .before .before .before .before .before .before .before .before .before .before .before .put .ensures, c .before .before .before .before .before .before .before .put-decimal .ensures .1, c .before .before .put2 .ensures))
 
 pub put-refused-spec : {M : Type 1} → statement M
 put-refused-spec =
