@@ -11,9 +11,10 @@ pub mod evaluate;
 pub mod examples;
 pub mod generate;
 pub mod house;
+pub mod lent;
+pub mod library;
 pub mod memory;
 pub mod oracle;
-#[cfg(feature = "ours")]
 pub mod ours;
 pub mod outcome;
 pub mod random;
@@ -22,4 +23,5 @@ pub mod rules;
 pub mod second_reader;
 pub mod shifts;
 pub mod system;
+pub mod third;
 pub mod vectors;
