@@ -22,6 +22,7 @@ pub mod replay;
 pub mod rules;
 pub mod second_reader;
 pub mod shifts;
+pub mod stores;
 pub mod system;
 pub mod third;
 pub mod vectors;

@@ -22,7 +22,9 @@ macro_rules! functions {
 
         #[cfg(feature = "ours")]
         mod symbols {
-            use super::{In, Len, Out, Record};
+            #[cfg(feature = "records")]
+            use super::Record;
+            use super::{In, Len, Out};
             unsafe extern "C" {
                 $($(#[$gate])? pub fn $symbol($(_: $argument),*) -> u8;)*
             }

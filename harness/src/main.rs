@@ -9,10 +9,10 @@ use std::{
 use harness::{
     bench, circuits, compare, damage, generate,
     house::{self, FULL},
-    memory, oracle,
+    library, memory, oracle,
     outcome::{Fuse, Outcome, dump, report},
     random::Random,
-    replay, rules, shifts,
+    replay, rules, shifts, stores,
     system::{MAX_WRITTEN, REPORT_BYTES, REPORT_ROOM, System},
     vectors,
 };
@@ -26,6 +26,7 @@ usage: harness COMMAND, see README.md
   compose | push INNER | apply HEXWORD
   make KIND SEED > FILE         a generated system as a house file
   compare KIND FIRST COUNT | compare all FIRST COUNT LARGECOUNT
+  compare-memory FIRST COUNT    systems in memory with any numbers in them, by the library (feature `ours`)
   compare-shifts
   circuit NAME SIZE SEED > FILE a real circuit as a house file
   bench REPEATS                 the real circuits: sizes, checks, microseconds of the Rust
@@ -34,6 +35,8 @@ usage: harness COMMAND, see README.md
   damage FIRST COUNT            damaged files through two readers
   memory FOLDER                 stdin and stdout of replay_lower
 ";
+
+const NOT_LINKED: &str = "this command needs the feature `ours`";
 
 fn main() -> ExitCode {
     oracle::silence_rust();
@@ -73,6 +76,7 @@ fn run(arguments: &[&str]) -> Option<ExitCode> {
         ["vectors", folder] => print!("{}", vectors::write(folder.as_ref()).expect("the folder can be written")),
         ["replay", folder] => return Some(replay_files(folder.as_ref())),
         ["memory", folder] => print!("{}", memory::write(folder.as_ref()).expect("the folder can be written")),
+        ["compare-memory", first, count] => return Some(compare_memory(first.parse().ok()?, count.parse().ok()?)),
         ["compare-shifts"] => return Some(compare_shifts()),
         _ => return None,
     }
@@ -146,7 +150,29 @@ fn compare_shifts() -> ExitCode {
         println!("{name} calls {} differences {} seconds {seconds:.1}", tried.calls, tried.differences);
         differences += tried.differences;
     }
+    if let Some(mut ours) = shifts::OurShifts::linked() {
+        for (name, compare) in [
+            ("our compose", shifts::compare_our_compose as fn(&mut shifts::OurShifts) -> shifts::Tried),
+            ("our push_inner", shifts::compare_our_push),
+        ] {
+            let start = std::time::Instant::now();
+            let tried = compare(&mut ours);
+            let seconds = start.elapsed().as_secs_f64();
+            println!("{name} calls {} differences {} seconds {seconds:.1}", tried.calls, tried.differences);
+            differences += tried.differences;
+        }
+    }
     code(differences == 0)
+}
+
+fn compare_memory(first: u64, count: u64) -> ExitCode {
+    let Some(library) = library::linked() else {
+        eprintln!("{NOT_LINKED}");
+        return ExitCode::from(2);
+    };
+    let totals = stores::compare(library, first, count);
+    print!("{totals}");
+    code(totals.differences == 0)
 }
 
 fn replay_files(folder: &Path) -> ExitCode {

@@ -264,7 +264,7 @@ fn fault_of_outcome(given: &Outcome, expected: &Outcome) -> Option<String> {
     (given != expected).then(|| format!("{}not:\n{}", dump(given), dump(expected)))
 }
 
-fn fault_of_given<T: PartialEq + std::fmt::Debug>(
+pub fn fault_of_given<T: PartialEq + std::fmt::Debug>(
     given: Given<&[T]>,
     expected: Result<&Vec<T>, &Refusal>,
 ) -> Option<String> {
