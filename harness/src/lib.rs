@@ -5,6 +5,7 @@
 pub mod bench;
 pub mod checks;
 pub mod circuits;
+pub mod clock;
 pub mod compare;
 pub mod damage;
 pub mod evaluate;
@@ -22,6 +23,7 @@ pub mod replay;
 pub mod rules;
 pub mod second_reader;
 pub mod shifts;
+pub mod slow;
 pub mod stores;
 pub mod system;
 pub mod third;

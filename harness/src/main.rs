@@ -12,7 +12,7 @@ use harness::{
     library, memory, oracle,
     outcome::{Fuse, Outcome, dump, report},
     random::Random,
-    replay, rules, shifts, stores,
+    replay, rules, shifts, slow, stores,
     system::{MAX_WRITTEN, REPORT_BYTES, REPORT_ROOM, System},
     vectors,
 };
@@ -29,7 +29,9 @@ usage: harness COMMAND, see README.md
   compare-memory FIRST COUNT    systems in memory with any numbers in them, by the library (feature `ours`)
   compare-shifts
   circuit NAME SIZE SEED > FILE a real circuit as a house file
-  bench REPEATS                 the real circuits: sizes, checks, microseconds of the Rust
+  bench REPEATS                 the real circuits: sizes, checks, microseconds of the Rust, and of the library (feature `ours`)
+  bench-one CIRCUIT SLOTS rust|ours PASSES   passes of one side, for counting instructions
+  slow REPEATS                  systems made to be slow: seconds of the library (feature `ours`)
   vectors FOLDER                the files that replay programs read
   replay FOLDER                 those files against the readers and the rules
   damage FIRST COUNT            damaged files through two readers
@@ -73,10 +75,14 @@ fn run(arguments: &[&str]) -> Option<ExitCode> {
         ["damage", first, count] => return Some(damage_files(first.parse().ok()?, count.parse().ok()?)),
         ["circuit", name, size, seed] => circuit(name, size.parse().ok()?, seed.parse().ok()?)?,
         ["bench", repeats] => return Some(code(bench::bench(repeats.parse().ok()?))),
+        ["bench-one", circuit, slots, side, passes] => {
+            bench::bench_one(circuit, slots.parse().ok()?, side, passes.parse().ok()?)?
+        }
         ["vectors", folder] => print!("{}", vectors::write(folder.as_ref()).expect("the folder can be written")),
         ["replay", folder] => return Some(replay_files(folder.as_ref())),
         ["memory", folder] => print!("{}", memory::write(folder.as_ref()).expect("the folder can be written")),
         ["compare-memory", first, count] => return Some(compare_memory(first.parse().ok()?, count.parse().ok()?)),
+        ["slow", repeats] => return Some(slow(repeats.parse().ok()?)),
         ["compare-shifts"] => return Some(compare_shifts()),
         _ => return None,
     }
@@ -173,6 +179,14 @@ fn compare_memory(first: u64, count: u64) -> ExitCode {
     let totals = stores::compare(library, first, count);
     print!("{totals}");
     code(totals.differences == 0)
+}
+
+fn slow(repeats: usize) -> ExitCode {
+    let Some(library) = library::linked() else {
+        eprintln!("{NOT_LINKED}");
+        return ExitCode::from(2);
+    };
+    code(slow::run(library, repeats))
 }
 
 fn replay_files(folder: &Path) -> ExitCode {

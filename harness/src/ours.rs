@@ -339,7 +339,7 @@ impl Ours {
         self.fused(image, refusal)
     }
 
-    fn lay_fuse(&mut self, image: &Image, room: usize, flags: usize, length: Length, values: usize) {
+    pub fn lay_fuse(&mut self, image: &Image, room: usize, flags: usize, length: Length, values: usize) {
         self.old.lay(&image.old, length.of(image.old.len(), MAX_TERMS));
         self.new.lay(&[], room);
         self.lists.lay(image, length);
@@ -347,7 +347,7 @@ impl Ours {
         self.values.lay(&[], values);
     }
 
-    fn call_fuse(&mut self, image: &Image, slots: u64) -> Refusal {
+    pub fn call_fuse(&mut self, image: &Image, slots: u64) -> Refusal {
         self.calls.fuses += 1;
         self.library.fuse(
             self.old.cells(),
@@ -399,7 +399,7 @@ impl Ours {
     }
 
     /// What fusing left in the stores.
-    fn fused(&mut self, image: &Image, refusal: Refusal) -> Given<Fused> {
+    pub fn fused(&mut self, image: &Image, refusal: Refusal) -> Given<Fused> {
         spoilt_if(!self.old.keeps(&image.old, 0), || "fusing wrote to the old terms".into())?;
         if refusal != 0 {
             let kept = self.new.keeps(&[], 0) && self.flags.keeps(&[], 0) && self.values.keeps(&[], 0);
