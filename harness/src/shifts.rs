@@ -298,11 +298,12 @@ pub fn compare_our_compose(ours: &mut OurShifts) -> Tried {
     tried
 }
 
-/// Ours on every triple of valid shifts, slots 0 to 3 and some greater, as the Rust; and on numbers that are no shifts.
-pub fn compare_our_push(ours: &mut OurShifts) -> Tried {
+/// Ours on every triple of valid shifts with these inner ones, slots 0 to 3 and some greater, as the Rust; and on numbers that are no
+/// shifts.
+pub fn compare_our_push(ours: &mut OurShifts, inners: &[u16]) -> Tried {
     let mut tried = Tried::default();
     let valid = valid_shifts();
-    for &inner in &valid {
+    for &inner in inners {
         for &outer in &valid {
             for &by in &valid {
                 let numbers = [inner, outer, by].map(u64::from);

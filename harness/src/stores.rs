@@ -150,7 +150,8 @@ fn change(image: &mut Image, random: &mut Random) {
             *count = *random.pick(&some);
         }
         9 => {
-            let some = [0, 1, 4096, 4097, usize::MAX, image.sizes.wires.saturating_sub(1), image.sizes.wires + 1];
+            let some =
+                [0, 1, 4096, 4097, usize::MAX, image.sizes.wires.saturating_sub(1), image.sizes.wires.wrapping_add(1)];
             image.sizes.wires = *random.pick(&some);
         }
         10 => {

@@ -3,12 +3,15 @@
 
 use harness::{
     compare::{Totals, compare_kind_with, faults_of, faults_of_all},
-    examples,
+    damage, examples,
     generate::kind_by_name,
+    house,
     library::{self, Answer, Library},
-    ours,
+    ours::{self, Ours},
     outcome::{Fuse, Outcome},
     rules,
+    shifts::{OurShifts, compare_our_compose, compare_our_push},
+    slow, stores,
     system::MAX_WRITTEN,
     third::Third,
 };
@@ -19,7 +22,7 @@ fn right() -> Library {
 
 /// Whether some systems of a few kinds show that a library is wrong.
 fn noticed(spoil: fn(Answer<'_>)) -> bool {
-    let mut third = Third::new(&Library { spoil: Some(spoil), ..right() });
+    let mut third = Third::new(&spoilt(spoil));
     let kinds = ["dense", "drop", "faulty"].map(|name| kind_by_name(name).expect("a kind"));
     kinds.into_iter().any(|kind| compare_kind_with(Some(&mut third), kind, 0, 70).differences > 0)
 }
@@ -196,6 +199,121 @@ fn a_wrong_side() {
             flip(left.numbers[0], 0)
         }
     };
-    let mut third = Third::new(&Library { spoil: Some(spoil), ..right() });
+    let mut third = Third::new(&spoilt(spoil));
     assert!(!faults_of_all(&system, 0, Some(&mut third), &mut Totals::default()).is_empty());
+}
+
+fn spoilt(spoil: fn(Answer<'_>)) -> Library {
+    Library { spoil: Some(spoil), ..right() }
+}
+
+/// Damaged files: numbers, offsets, and stores after a refusal.
+#[test]
+fn damaged_files() {
+    let differences = |spoil| damage::run_with(Some(Ours::new(&spoilt(spoil))), 0, 2).differences;
+    assert_eq!(differences(|_| {}), 0);
+    assert!(
+        differences(|left| if *left.refusal == 1 {
+            *left.refusal = 3
+        }) > 100
+    );
+    assert!(
+        differences(|left| if *left.refusal == 4 {
+            left.numbers[6][0] += 3
+        }) > 100
+    );
+    assert!(
+        differences(|left| if *left.refusal == 5 {
+            flip(left.dsts, 0)
+        }) > 10
+    );
+    assert!(
+        differences(|left| if *left.refusal == 0 {
+            flip(left.numbers[0], 1)
+        }) > 0
+    );
+}
+
+/// Systems in memory: each of the four functions.
+#[test]
+fn systems_in_memory() {
+    let differences = |spoil| stores::compare(&spoilt(spoil), 0, 2000).differences;
+    assert_eq!(differences(|_| {}), 0);
+    assert!(
+        differences(|left| if left.of == "fuse" && *left.refusal == 3 {
+            *left.refusal = 5
+        }) > 100
+    );
+    assert!(
+        differences(|left| if left.of == "fuse" && *left.refusal == 7 {
+            *left.refusal = 8
+        }) > 10
+    );
+    assert!(
+        differences(|left| if left.of == "fuse" && *left.refusal == 11 {
+            *left.refusal = 12
+        }) > 2
+    );
+    assert!(
+        differences(|left| if left.of == "fill_back" && *left.refusal == 13 {
+            *left.refusal = 0
+        }) > 100
+    );
+    assert!(
+        differences(|left| if left.of == "write" && *left.refusal == 12 {
+            *left.refusal = 14
+        }) > 10
+    );
+    assert!(
+        differences(|left| if left.of == "evaluate" && *left.refusal == 13 {
+            *left.refusal = 12
+        }) > 100
+    );
+    assert!(
+        differences(|left| if left.of == "fuse" && *left.refusal != 0 {
+            flip(left.dsts, 0)
+        }) > 100
+    );
+}
+
+/// `compose` and `push_inner`.
+#[test]
+fn shifts() {
+    let differences = |spoil| {
+        let mut ours = OurShifts::new(&spoilt(spoil));
+        compare_our_compose(&mut ours).differences + compare_our_push(&mut ours, &[1, 200]).differences
+    };
+    assert_eq!(differences(|_| {}), 0);
+    assert!(
+        differences(|left| if left.of == "compose" && *left.refusal == 0 {
+            flip(left.numbers[0], 1)
+        }) > 0
+    );
+    assert!(
+        differences(|left| if left.of == "compose" && *left.refusal == 4 {
+            flip(left.numbers[0], 0)
+        }) > 0
+    );
+    assert!(
+        differences(|left| if left.of == "push_inner" && *left.refusal == 0 {
+            flip(left.numbers[0], 2)
+        }) > 0
+    );
+    assert!(
+        differences(|left| if left.of == "push_inner" && *left.refusal == 4 {
+            *left.refusal = 5
+        }) > 0
+    );
+}
+
+/// Five systems at each limit are made to be slow, and none goes over one.
+#[test]
+fn slow_systems() {
+    for limit in ["wires", "definitions", "others", "terms read", "terms written", "depth"] {
+        assert!(slow::SLOW.iter().filter(|slow| slow.limit == limit).count() >= 5, "{limit}");
+    }
+    for slow in &slow::SLOW {
+        let system = (slow.make)();
+        assert!(!house::is_full(&system), "{}", slow.name);
+    }
 }
