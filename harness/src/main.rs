@@ -31,7 +31,8 @@ usage: harness COMMAND, see README.md
   circuit NAME SIZE SEED > FILE a real circuit as a house file
   bench REPEATS                 the real circuits: sizes, checks, microseconds of the Rust, and of the library (feature `ours`)
   bench-one CIRCUIT SLOTS rust|ours PASSES   passes of one side, for counting instructions
-  slow REPEATS                  systems made to be slow: seconds of the library (feature `ours`)
+  slow REPEATS                  systems made to be slow: processor seconds of the library (feature `ours`)
+  compare-slow                  those systems, as `compare` compares
   vectors FOLDER                the files that replay programs read
   seeds VECTORS FOLDER          house files to begin fuzzing with
   replay FOLDER                 those files against the readers and the rules
@@ -84,6 +85,7 @@ fn run(arguments: &[&str]) -> Option<ExitCode> {
         ["replay", folder] => return Some(replay_files(folder.as_ref())),
         ["memory", folder] => print!("{}", memory::write(folder.as_ref()).expect("the folder can be written")),
         ["compare-memory", first, count] => return Some(compare_memory(first.parse().ok()?, count.parse().ok()?)),
+        ["compare-slow"] => return Some(told(&slow::compare())),
         ["slow", repeats] => return Some(slow(repeats.parse().ok()?)),
         ["compare-shifts"] => return Some(compare_shifts()),
         _ => return None,

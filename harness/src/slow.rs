@@ -5,15 +5,17 @@
 
 use crate::{
     clock::processor_seconds,
+    compare::{Totals, faults_of_all},
     house::Refusal,
     library::Library,
-    ours::{Image, Length, Not, Ours},
+    ours::{Image, Length, Not, Ours, operand_number},
     random::Random,
     rules::shift::{ROTR, ROTR32, SAR, SLL, SLL32, SLR, SRA32, SRL32, shift},
     system::{
         AND, BMUL, Definition, IMUL, MAX_DEFINITIONS, MAX_OTHERS, MAX_TERMS, MAX_WIRES, MAX_WRITTEN, OPERANDS, System,
         Term, ZERO,
     },
+    third::Third,
 };
 
 /// A slow system: which limit it stands at, and how it is made.
@@ -21,10 +23,32 @@ pub struct Slow {
     pub limit: &'static str,
     pub name: &'static str,
     pub make: fn() -> System,
+    /// How many cells of its store lie between the terms of its paths; 0 where terms lie one after another, as they are read.
+    pub apart: usize,
 }
 
 const fn slow(limit: &'static str, name: &'static str, make: fn() -> System) -> Slow {
-    Slow { limit, name, make }
+    Slow { limit, name, make, apart: 0 }
+}
+
+/// A place that a cache has room for but a few lines of: 131,072 bytes on.
+const APART: usize = 16_384;
+
+impl Slow {
+    fn image(&self) -> Image {
+        let mut image = Image::of(&(self.make)());
+        if self.apart == 0 {
+            return image;
+        }
+        for rhs in image.rhss.iter_mut().filter(|rhs| **rhs as u32 == 1) {
+            let term = image.old[(*rhs >> 32) as usize];
+            let place = image.old.len() + self.apart - 1;
+            image.old.resize(place, 0);
+            image.old.push(term);
+            *rhs = operand_number(place, 1);
+        }
+        image
+    }
 }
 
 /// A system while it is made: wires are numbered as they are asked for.
@@ -58,11 +82,7 @@ impl Made {
         below
     }
 
-    /// Room for as many more definitions, and terms, as the limits leave.
-    fn definitions_left(&self) -> usize {
-        MAX_DEFINITIONS - self.0.linears.len()
-    }
-
+    /// As many more terms as the limits leave.
     fn terms_left(&self) -> usize {
         MAX_TERMS - self.0.term_count()
     }
@@ -194,7 +214,7 @@ fn with_all_wires(mut made: Made) -> System {
     made.done()
 }
 
-pub const SLOW: [Slow; 47] = [
+pub const SLOW: [Slow; 49] = [
     // Named in the documents.
     slow("known", "expansion that never ends", || {
         let mut made = Made::new();
@@ -206,7 +226,7 @@ pub const SLOW: [Slow; 47] = [
         made.zero(vec![Term::single(wire, shift(SLL, 40))]);
         made.done()
     }),
-    slow("known", "the same in two runs", || {
+    slow("known", "expansion that never ends, in two runs", || {
         let mut made = Made::new();
         let below = made.wire();
         let mut wire = made.define(vec![Term::single(below, shift(SLL, 30))]);
@@ -488,11 +508,10 @@ pub const SLOW: [Slow; 47] = [
         made.zero(vec![Term::single(top, shift(ROTR32, 5)); left]);
         made.done()
     }),
-    slow("depth", "definitions left", || {
+    slow("depth", "a path of sar 63", || {
         let mut made = Made::new();
         let below = made.wire();
-        let left = made.definitions_left();
-        let top = made.path(below, left, |_| shift(SAR, 63));
+        let top = made.path(below, MAX_DEFINITIONS, |_| shift(SAR, 63));
         let left = made.terms_left();
         made.zero(vec![Term::single(top, shift(SAR, 63)); left]);
         made.done()
@@ -504,6 +523,19 @@ pub const SLOW: [Slow; 47] = [
         made.square(Term::plain(top), 0);
         made.done()
     }),
+    // In memory, with the terms of paths laid where they drive one another out of the caches. No file is read so.
+    Slow {
+        limit: "layout",
+        name: "16,384 terms through 1,023 definitions, 131,072 bytes apart",
+        make: || square_path(LONGEST, |_| NO_SHIFT).done(),
+        apart: APART,
+    },
+    Slow {
+        limit: "layout",
+        name: "the same in two runs",
+        make: || square_path(LONGEST, two_runs).done(),
+        apart: APART,
+    },
 ];
 
 /// What fusing a system comes to and takes.
@@ -513,17 +545,16 @@ pub struct Taken {
     pub seconds: f64,
 }
 
-/// Fuses a system, and gives the best seconds of some calls.
-pub fn taken(library: &Library, system: &System, slots: u64, repeats: usize) -> Taken {
-    let image = Image::of(system);
+/// Fuses an image, and gives the best seconds of some calls.
+pub fn taken(library: &Library, image: &Image, slots: u64, repeats: usize) -> Taken {
     let mut ours = Ours::new(library);
     let mut best = Taken { answer: 0, written: 0, seconds: f64::MAX };
     for _ in 0..repeats {
-        ours.lay_fuse(&image, MAX_WRITTEN, MAX_WIRES, Length::Full, 5);
+        ours.lay_fuse(image, MAX_WRITTEN, MAX_WIRES, Length::Full, 5);
         let start = processor_seconds();
-        let answer = ours.call_fuse(&image, slots);
+        let answer = ours.call_fuse(image, slots);
         let seconds = processor_seconds() - start;
-        let given = ours.fused(&image, answer);
+        let given = ours.fused(image, answer);
         assert!(!matches!(given, Err(Not::Spoilt(_))), "{given:?}");
         let written = given.map_or(0, |fused| fused.written);
         best = Taken { answer, written, seconds: seconds.min(best.seconds) };
@@ -535,10 +566,11 @@ pub fn taken(library: &Library, system: &System, slots: u64, repeats: usize) -> 
 pub fn run(library: &Library, repeats: usize) -> bool {
     println!("limit | system | slots | answer | terms written | seconds");
     let mut slowest = (0.0, String::new());
-    for Slow { limit, name, make } in &SLOW {
-        let system = make();
+    for slow in &SLOW {
+        let Slow { limit, name, .. } = slow;
+        let image = slow.image();
         for slots in 1..=2 {
-            let Taken { answer, written, seconds } = taken(library, &system, slots, repeats);
+            let Taken { answer, written, seconds } = taken(library, &image, slots, repeats);
             println!("{limit} | {name} | {slots} | {answer} | {written} | {seconds:.4}");
             if seconds > slowest.0 {
                 slowest = (seconds, format!("{limit}: {name}, slots {slots}"));
@@ -547,4 +579,21 @@ pub fn run(library: &Library, repeats: usize) -> bool {
     }
     println!("systems {} slowest {:.4} {}", SLOW.len(), slowest.0, slowest.1);
     slowest.0 <= 1.0
+}
+
+/// Compares these systems as `compare` does generated ones.
+pub fn compare() -> Totals {
+    let start = std::time::Instant::now();
+    let mut third = Third::linked();
+    let mut totals = Totals::default();
+    for (seed, Slow { limit, name, make, .. }) in SLOW.iter().enumerate() {
+        totals.systems += 1;
+        for fault in faults_of_all(&make(), seed as u64, third.as_mut(), &mut totals) {
+            totals.differences += 1;
+            println!("difference: {limit}: {name}: {fault}");
+        }
+    }
+    totals.ours = third.as_mut().map(Third::take_calls).unwrap_or_default();
+    totals.seconds = start.elapsed().as_secs_f64();
+    totals
 }
