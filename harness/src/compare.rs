@@ -1,4 +1,4 @@
-//! Rust against rules on generated systems, and what fusing must leave true of them.
+//! Rust against rules on generated systems, the project's own library against both where it is linked, and what fusing must leave true.
 
 use std::{fmt, time::Instant};
 
@@ -7,10 +7,12 @@ use crate::{
     generate::{self, KINDS},
     house::{self, CIRCLE, DOUBLE, TWICE},
     oracle,
+    ours::Calls,
     outcome::{Fused, Outcome, dump, dump_lists},
     random::Random,
     rules,
     system::{Constraint, MAX_WRITTEN, REPORT_ROOM, System},
+    third::Third,
 };
 
 /// What runs came to.
@@ -26,6 +28,8 @@ pub struct Totals {
     pub gone: u64,
     pub stranded: u64,
     pub written: u64,
+    /// Calls of the project's own library.
+    pub ours: Calls,
     pub seconds: f64,
 }
 
@@ -43,6 +47,7 @@ impl Totals {
         self.gone += other.gone;
         self.stranded += other.stranded;
         self.written += other.written;
+        self.ours.add(&other.ours);
         self.seconds += other.seconds;
     }
 
@@ -84,39 +89,59 @@ impl fmt::Display for Totals {
         for (refusal, count) in self.refused.iter().enumerate().filter(|(_, count)| **count > 0) {
             write!(f, " refused-{refusal} {count}")?;
         }
+        if self.ours != Calls::default() {
+            let Calls { reads, fuses, writes, evaluations, fill_backs } = self.ours;
+            write!(f, " ours-read {reads} fused {fuses} written {writes}")?;
+            write!(f, " evaluated {evaluations} filled-back {fill_backs}")?;
+        }
         write!(f, " seconds {:.1}", self.seconds)
     }
 }
 
 /// Compares `count` systems of a kind, from a first seed on, at one slot and at two.
 pub fn compare_kind(kind: usize, first: u64, count: u64) -> Totals {
+    compare_kind_with(Third::linked().as_mut(), kind, first, count)
+}
+
+/// The same with this library as the third side.
+pub fn compare_kind_with(mut third: Option<&mut Third>, kind: usize, first: u64, count: u64) -> Totals {
     let mut totals = Totals::default();
     let start = Instant::now();
     for seed in first..first + count {
         let system = generate::system(kind, seed);
         totals.systems += 1;
-        for fault in faults_of(&system, &mut totals) {
+        for fault in faults_of_all(&system, seed, third.as_deref_mut(), &mut totals) {
             totals.differences += 1;
             println!("difference: kind {} seed {seed}: {fault}", KINDS[kind].name);
         }
     }
+    totals.ours = third.map(Third::take_calls).unwrap_or_default();
     totals.seconds = start.elapsed().as_secs_f64();
     totals
 }
 
 /// Everything that is wrong about fusing one system, in words.
 pub fn faults_of(system: &System, totals: &mut Totals) -> Vec<String> {
+    faults_of_all(system, 0, Third::linked().as_mut(), totals)
+}
+
+/// The same with this library as the third side, and a seed for what it is lent.
+pub fn faults_of_all(system: &System, seed: u64, third: Option<&mut Third>, totals: &mut Totals) -> Vec<String> {
     let mut faults = Vec::new();
+    let by_rules = [1, 2].map(|slots| rules::fuse(system, slots, MAX_WRITTEN));
+    let by_rust = [1, 2].map(|slots| oracle::fuse(system, slots, MAX_WRITTEN));
     for slots in 1..=2 {
-        let by_rules = rules::fuse(system, slots, MAX_WRITTEN);
-        let by_rust = oracle::fuse(system, slots, MAX_WRITTEN);
-        totals.note(&by_rust);
-        faults.extend(fault_of_run(system, slots, &by_rules, &by_rust));
-        if let Outcome::Fused(fused) = &by_rules {
+        let [by_rules, by_rust] = [&by_rules[slots - 1], &by_rust[slots - 1]];
+        totals.note(by_rust);
+        faults.extend(fault_of_run(system, slots, by_rules, by_rust));
+        if let Outcome::Fused(fused) = by_rules {
             faults.extend(fault_of_room(system, slots, fused));
         }
     }
     faults.extend(fault_of_file(system));
+    if let Some(third) = third {
+        faults.extend(third.faults_of(system, &by_rules, &by_rust, seed));
+    }
     faults
 }
 
@@ -132,8 +157,8 @@ fn fault_of_run(system: &System, slots: usize, by_rules: &Outcome, by_rust: &Out
     }
 }
 
-/// Where the Rust is not run to its end, its decision and the number of its terms are compared, and no lists.
-fn agree(by_rules: &Outcome, by_rust: &Outcome) -> bool {
+/// Whether a side agrees with the Rust. Where the Rust is not run to its end, its decision and the number of its terms are compared, and no lists.
+pub fn agree(by_rules: &Outcome, by_rust: &Outcome) -> bool {
     match (by_rules, by_rust) {
         (Outcome::Fused(fused), Outcome::Endless { committed, written }) => {
             fused.committed == *committed && fused.written == *written

@@ -2,10 +2,12 @@
 
 use crate::{
     generate,
-    house::{self, CUT, FULL, Fault, Refusal, SHAPE, SHIFT, TAG, WIRE},
+    house::{self, CUT, FULL, Fault, ROOM, Refusal, SHAPE, SHIFT, TAG, WIRE},
+    ours::{Length, Ours, Room},
     random::Random,
     second_reader,
     system::{AND, BMUL, Definition, IMUL, MAX_DEFINITIONS, MAX_OTHERS, MAX_TERMS, System, Term, ZERO},
+    third::fault_of_read,
 };
 
 pub struct Damaged {
@@ -313,10 +315,50 @@ pub struct Read {
     pub accepted: u64,
     pub refused: [u64; 16],
     pub differences: u64,
+    /// Files that the project's own library read, and those that it had no room for.
+    pub ours: u64,
+    pub no_room: u64,
+}
+
+/// The project's own reader, and how long its stores are: as the good file needs them, or longer.
+pub struct ThirdReader {
+    ours: Ours,
+    room: Room,
+    reads: u64,
+}
+
+impl ThirdReader {
+    pub fn new(ours: Ours) -> Self {
+        Self { ours, room: Room::of(&System::new(1), Length::Full), reads: 0 }
+    }
+
+    fn lend_for(&mut self, good: &[u8], seed: u64) {
+        let system = house::read(good).expect("the file is good");
+        self.room = Room::of(&system, Length::by_seed(seed));
+    }
+
+    /// What is wrong about its answer, in words; and whether it is ROOM.
+    fn fault_of(&mut self, bytes: &[u8], by_first: &Result<System, Fault>) -> (Option<String>, bool) {
+        self.reads += 1;
+        let given = self.ours.read(bytes, &self.room, 7 + self.reads as usize % 2);
+        match by_first {
+            Ok(system) if !self.room.holds(system) => {
+                let expected = Err(Fault { refusal: ROOM, offset: bytes.len() });
+                (fault_of_read(given, &expected), true)
+            }
+            _ => (fault_of_read(given, by_first), false),
+        }
+    }
 }
 
 impl Read {
-    fn note(&mut self, bytes: &[u8], expected: Option<Fault>, what: &str) {
+    fn note(
+        &mut self,
+        third: &mut Option<ThirdReader>,
+        bytes: &[u8],
+        expected: Option<Fault>,
+        what: impl Fn() -> String,
+    ) {
         let first = house::read(bytes);
         let second = second_reader::read(bytes);
         let agree = match (&first, &second) {
@@ -329,36 +371,52 @@ impl Read {
             Ok(_) => self.accepted += 1,
             Err(fault) => self.refused[usize::from(fault.refusal)] += 1,
         }
+        if let Some(third) = third {
+            self.ours += 1;
+            let (fault, no_room) = third.fault_of(bytes, &first);
+            self.no_room += u64::from(no_room);
+            if let Some(fault) = fault {
+                self.differences += 1;
+                println!("difference: {}: ours: {fault}, {bytes:02X?}", what());
+            }
+        }
         if !agree || !as_expected {
             self.differences += 1;
-            println!(
-                "difference: {what}: expected {expected:?}, first reader {:?}, second {:?}",
-                first.err(),
-                second.err()
-            );
+            let (first, second) = (first.err(), second.err());
+            println!("difference: {}: expected {expected:?}, first reader {first:?}, second {second:?}", what());
         }
     }
 }
 
 /// Damages `count` good files in every way, and mutates each some hundred times.
 pub fn run(first: u64, count: u64) -> Read {
+    run_with(Ours::linked(), first, count)
+}
+
+/// The same with this library as the third reader.
+pub fn run_with(ours: Option<Ours>, first: u64, count: u64) -> Read {
+    let mut third = ours.map(ThirdReader::new);
     let mut read = Read::default();
     for damaged in over_limits() {
         read.known += 1;
-        read.note(&damaged.bytes, Some(damaged.expected), &damaged.what);
+        read.note(&mut third, &damaged.bytes, Some(damaged.expected), || damaged.what.clone());
     }
     let least = ("least file".to_string(), least_file());
     let drawn = (first..first + count).map(|seed| (format!("seed {seed}"), good_file(seed)));
     for (seed, (name, good)) in std::iter::once(least).chain(drawn).enumerate() {
-        read.note(&good, None, &name);
+        let seed = first + seed as u64;
+        if let Some(third) = &mut third {
+            third.lend_for(&good, seed);
+        }
+        read.note(&mut third, &good, None, || name.clone());
         for damaged in damaged(&good) {
             read.known += 1;
-            read.note(&damaged.bytes, Some(damaged.expected), &format!("{name}: {}", damaged.what));
+            read.note(&mut third, &damaged.bytes, Some(damaged.expected), || format!("{name}: {}", damaged.what));
         }
-        let mut random = Random::new(first + seed as u64);
+        let mut random = Random::new(seed);
         for _ in 0..200 {
             read.mutated += 1;
-            read.note(&mutated(&good, &mut random), None, &format!("{name}: mutated"));
+            read.note(&mut third, &mutated(&good, &mut random), None, || format!("{name}: mutated"));
         }
     }
     read

@@ -18,6 +18,7 @@ pub const EMPTY: Refusal = 9;
 pub const DOUBLE: Refusal = 10;
 pub const CIRCLE: Refusal = 11;
 pub const ROOM: Refusal = 12;
+pub const SIZE: Refusal = 13;
 pub const WIDE: Refusal = 14;
 
 pub const TAG_WIRES: u8 = 1;

@@ -5,15 +5,17 @@
 pub mod bench;
 pub mod checks;
 pub mod circuits;
+pub mod clock;
 pub mod compare;
 pub mod damage;
 pub mod evaluate;
 pub mod examples;
 pub mod generate;
 pub mod house;
+pub mod lent;
+pub mod library;
 pub mod memory;
 pub mod oracle;
-#[cfg(feature = "ours")]
 pub mod ours;
 pub mod outcome;
 pub mod random;
@@ -21,5 +23,8 @@ pub mod replay;
 pub mod rules;
 pub mod second_reader;
 pub mod shifts;
+pub mod slow;
+pub mod stores;
 pub mod system;
+pub mod third;
 pub mod vectors;

@@ -9,10 +9,10 @@ use std::{
 use harness::{
     bench, circuits, compare, damage, generate,
     house::{self, FULL},
-    memory, oracle,
+    library, memory, oracle,
     outcome::{Fuse, Outcome, dump, report},
     random::Random,
-    replay, rules, shifts,
+    replay, rules, shifts, slow, stores,
     system::{MAX_WRITTEN, REPORT_BYTES, REPORT_ROOM, System},
     vectors,
 };
@@ -26,14 +26,21 @@ usage: harness COMMAND, see README.md
   compose | push INNER | apply HEXWORD
   make KIND SEED > FILE         a generated system as a house file
   compare KIND FIRST COUNT | compare all FIRST COUNT LARGECOUNT
+  compare-memory FIRST COUNT    systems in memory with any numbers in them, by the library (feature `ours`)
   compare-shifts
   circuit NAME SIZE SEED > FILE a real circuit as a house file
-  bench REPEATS                 the real circuits: sizes, checks, microseconds of the Rust
+  bench REPEATS                 the real circuits: sizes, checks, microseconds of the Rust, and of the library (feature `ours`)
+  bench-one CIRCUIT SLOTS rust|ours PASSES   passes of one side, for counting instructions
+  slow REPEATS                  systems made to be slow: processor seconds of the library (feature `ours`)
+  compare-slow                  those systems, as `compare` compares
   vectors FOLDER                the files that replay programs read
+  seeds VECTORS FOLDER          house files to begin fuzzing with
   replay FOLDER                 those files against the readers and the rules
   damage FIRST COUNT            damaged files through two readers
   memory FOLDER                 stdin and stdout of replay_lower
 ";
+
+const NOT_LINKED: &str = "this command needs the feature `ours`";
 
 fn main() -> ExitCode {
     oracle::silence_rust();
@@ -70,9 +77,16 @@ fn run(arguments: &[&str]) -> Option<ExitCode> {
         ["damage", first, count] => return Some(damage_files(first.parse().ok()?, count.parse().ok()?)),
         ["circuit", name, size, seed] => circuit(name, size.parse().ok()?, seed.parse().ok()?)?,
         ["bench", repeats] => return Some(code(bench::bench(repeats.parse().ok()?))),
+        ["bench-one", circuit, slots, side, passes] => {
+            bench::bench_one(circuit, slots.parse().ok()?, side, passes.parse().ok()?)?
+        }
         ["vectors", folder] => print!("{}", vectors::write(folder.as_ref()).expect("the folder can be written")),
+        ["seeds", vectors, folder] => seeds(vectors.as_ref(), folder.as_ref()).expect("the folders are there"),
         ["replay", folder] => return Some(replay_files(folder.as_ref())),
         ["memory", folder] => print!("{}", memory::write(folder.as_ref()).expect("the folder can be written")),
+        ["compare-memory", first, count] => return Some(compare_memory(first.parse().ok()?, count.parse().ok()?)),
+        ["compare-slow"] => return Some(told(&slow::compare())),
+        ["slow", repeats] => return Some(slow(repeats.parse().ok()?)),
         ["compare-shifts"] => return Some(compare_shifts()),
         _ => return None,
     }
@@ -135,18 +149,56 @@ fn told(totals: &compare::Totals) -> ExitCode {
 
 fn compare_shifts() -> ExitCode {
     let mut differences = 0;
-    for (name, compare) in [
-        ("compose", shifts::compare_compose as fn() -> shifts::Tried),
-        ("push_inner", shifts::compare_push),
-        ("apply", shifts::compare_apply),
-    ] {
+    let mut tell = |name: &str, compare: &mut dyn FnMut() -> shifts::Tried| {
         let start = std::time::Instant::now();
         let tried = compare();
         let seconds = start.elapsed().as_secs_f64();
         println!("{name} calls {} differences {} seconds {seconds:.1}", tried.calls, tried.differences);
         differences += tried.differences;
+    };
+    tell("compose", &mut shifts::compare_compose);
+    tell("push_inner", &mut shifts::compare_push);
+    tell("apply", &mut shifts::compare_apply);
+    if let Some(mut ours) = shifts::OurShifts::linked() {
+        tell("our compose", &mut || shifts::compare_our_compose(&mut ours));
+        tell("our push_inner", &mut || shifts::compare_our_push(&mut ours, &shifts::valid_shifts()));
     }
     code(differences == 0)
+}
+
+fn compare_memory(first: u64, count: u64) -> ExitCode {
+    let Some(library) = library::linked() else {
+        eprintln!("{NOT_LINKED}");
+        return ExitCode::from(2);
+    };
+    let totals = stores::compare(library, first, count);
+    print!("{totals}");
+    code(totals.differences == 0)
+}
+
+fn slow(repeats: usize) -> ExitCode {
+    let Some(library) = library::linked() else {
+        eprintln!("{NOT_LINKED}");
+        return ExitCode::from(2);
+    };
+    code(slow::run(library, repeats))
+}
+
+/// House files to begin fuzzing with: those of the vectors, damaged ones, and some generated systems of each kind.
+fn seeds(vectors: &Path, folder: &Path) -> std::io::Result<()> {
+    let mut files = replay::files(vectors)?;
+    files.push(damage::least_file());
+    files.extend(damage::damaged(&damage::least_file()).into_iter().step_by(7).map(|damaged| damaged.bytes));
+    for (kind, entry) in generate::KINDS.iter().enumerate() {
+        let seeds = if entry.large { 8 } else { 40 };
+        let systems = (0..seeds).map(|seed| generate::system(kind, seed));
+        files.extend(systems.filter_map(|system| house::write(&system).ok()));
+    }
+    for (at, file) in files.iter().enumerate() {
+        std::fs::write(folder.join(format!("{at:05}")), file)?;
+    }
+    println!("files {}", files.len());
+    Ok(())
 }
 
 fn replay_files(folder: &Path) -> ExitCode {

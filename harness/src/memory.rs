@@ -2,7 +2,7 @@
 
 use std::{collections::HashSet, fmt::Write, fs, io, path::Path};
 
-use crate::random::Random;
+use crate::{ours::Image, random::Random};
 
 /// Rows of And, Imul, Bmul and Zero have so many operands.
 const ARITIES: [usize; 4] = [3, 4, 6, 1];
@@ -20,7 +20,7 @@ const NEW_STORE: u64 = 1 << 63;
 
 /// A system as it is lent, every number as it stands: any at all.
 #[derive(Clone)]
-struct Memory {
+pub struct Memory {
     limit: u64,
     wires: u64,
     /// And, Imul, Bmul, Zero, Linear.
@@ -45,6 +45,25 @@ fn is_shift(number: u64) -> bool {
 }
 
 impl Memory {
+    /// What stands in an image, with or without its new terms, where so many terms are allowed.
+    pub fn of(image: &Image, with_new: bool, limit: u64) -> Self {
+        Self {
+            limit,
+            wires: image.sizes.wires as u64,
+            counts: image.sizes.counts.map(|count| count as u64),
+            old: image.old.clone(),
+            new: if with_new { image.new.clone() } else { Vec::new() },
+            rows: image.rows.clone(),
+            dsts: image.dsts.iter().map(|&dst| dst.into()).collect(),
+            rhss: image.rhss.clone(),
+        }
+    }
+
+    /// 3 to 6.
+    pub fn check(&self) -> Result<(), u8> {
+        self.check_places().and_then(|()| self.check_limits())
+    }
+
     /// The terms of an operand, or nothing if it ends past its store.
     fn terms(&self, operand: u64) -> Option<&[u64]> {
         let store = if operand >= NEW_STORE { &self.new } else { &self.old };
@@ -134,8 +153,7 @@ impl Memory {
 
     /// The number that is given, 0 for none.
     fn fault(&self) -> u8 {
-        let checked = self.check_places().and_then(|()| self.check_limits()).and_then(|()| self.check_definitions());
-        checked.err().unwrap_or(0)
+        self.check().and_then(|()| self.check_definitions()).err().unwrap_or(0)
     }
 
     fn stores(&self) -> [&Vec<u64>; 8] {

@@ -63,6 +63,25 @@ pub fn replay(folder: &Path) -> io::Result<Replayed> {
     Ok(replayed)
 }
 
+/// The house files of all vectors of a folder.
+pub fn files(folder: &Path) -> io::Result<Vec<Vec<u8>>> {
+    let mut files = Vec::new();
+    // What stands behind the house file: numbers, and in the last two a block before the last of them.
+    for (name, before, after) in [("house.bin", 9, None), ("decision.bin", 2, Some(0)), ("fuse.bin", 3, Some(5))] {
+        let bytes = fs::read(folder.join(name))?;
+        let mut rest = Rest(&bytes);
+        for _ in 0..rest.number() {
+            files.push(rest.block().to_vec());
+            rest.take(4 * before);
+            if let Some(after) = after {
+                rest.block();
+                rest.take(4 * after);
+            }
+        }
+    }
+    Ok(files)
+}
+
 fn house_holds(rest: &mut Rest) -> bool {
     let answer = match house::read(rest.block()) {
         Ok(system) => {

@@ -7,7 +7,9 @@ use binius_core::{
 use binius_frontend::lower::{PushInner, push_inner};
 
 use crate::{
-    house::is_shift,
+    house::{SHIFT, is_shift},
+    lent::Lent,
+    library::{self, Library},
     oracle::{number_of, shift_of},
     rules::shift as rules,
 };
@@ -206,6 +208,133 @@ impl Tried {
             println!("difference: {}", what());
         }
     }
+}
+
+/// `compose` and `push_inner` of the project's own library, over values that are watched.
+pub struct OurShifts {
+    library: Library,
+    values: Lent<u64>,
+}
+
+impl OurShifts {
+    pub fn new(library: &Library) -> Self {
+        Self { library: *library, values: Lent::default() }
+    }
+
+    pub fn linked() -> Option<Self> {
+        library::linked().map(Self::new)
+    }
+
+    /// Whether an answer is 0 with these values, of which as many are told as are lent.
+    fn told(&self, answer: u8, expected: &[u64]) -> bool {
+        let lent = self.values.cells();
+        let told = expected.len().min(lent.len());
+        answer == 0 && lent[..told] == expected[..told] && self.values.keeps(&[], told)
+    }
+
+    fn refused(&self, answer: u8) -> bool {
+        answer == SHIFT && self.values.keeps(&[], 0)
+    }
+
+    fn composes(&mut self, inner: u64, outer: u64, lent: usize, expected: Option<rules::Composition>) -> bool {
+        self.values.lay(&[], lent);
+        let answer = self.library.compose(inner, outer, self.values.cells_mut());
+        match expected {
+            Some(rules::Composition::Single(single)) => self.told(answer, &[0, single.into()]),
+            Some(rules::Composition::Zero) => self.told(answer, &[1]),
+            Some(rules::Composition::Pair) => self.told(answer, &[2]),
+            None => self.refused(answer),
+        }
+    }
+
+    fn pushes(
+        &mut self,
+        [inner, outer, by]: [u64; 3],
+        slots: u64,
+        lent: usize,
+        expected: Option<rules::Pushed>,
+    ) -> bool {
+        self.values.lay(&[], lent);
+        let answer = self.library.push_inner(inner, outer, by, slots, self.values.cells_mut());
+        match expected {
+            Some(rules::Pushed::Seq([inner, outer])) => self.told(answer, &[0, inner.into(), outer.into()]),
+            Some(rules::Pushed::Zero) => self.told(answer, &[1]),
+            Some(rules::Pushed::OverBudget) => self.told(answer, &[2]),
+            None => self.refused(answer),
+        }
+    }
+}
+
+/// Numbers around which a shift's number begins and ceases to be valid, and numbers of more than 16 bits.
+fn odd_numbers() -> Vec<u64> {
+    let all = (0..600).chain([65_535, 65_536, 65_537, 1 << 32, 1 << 32 | 5, u64::MAX]);
+    all.filter(|&number| !is_valid(number)).collect()
+}
+
+fn is_valid(number: u64) -> bool {
+    u16::try_from(number).is_ok_and(is_shift)
+}
+
+/// Ours on every pair of valid shifts, as the Rust; and on numbers that are none, where it has to refuse.
+pub fn compare_our_compose(ours: &mut OurShifts) -> Tried {
+    let mut tried = Tried::default();
+    for &inner in &valid_shifts() {
+        for &outer in &valid_shifts() {
+            let expected = rust_compose(inner, outer);
+            for lent in 0..4 {
+                let equal = ours.composes(inner.into(), outer.into(), lent, Some(expected));
+                tried.note(equal, || format!("compose({inner}, {outer}), {lent} values"));
+            }
+        }
+    }
+    for &odd in &odd_numbers() {
+        for number in (0..600).chain([odd, u64::MAX]) {
+            for [inner, outer] in [[odd, number], [number, odd]] {
+                let equal = ours.composes(inner, outer, 3, None);
+                tried.note(equal, || format!("compose({inner}, {outer})"));
+            }
+        }
+    }
+    tried
+}
+
+/// Ours on every triple of valid shifts with these inner ones, slots 0 to 3 and some greater, as the Rust; and on numbers that are no
+/// shifts.
+pub fn compare_our_push(ours: &mut OurShifts, inners: &[u16]) -> Tried {
+    let mut tried = Tried::default();
+    let valid = valid_shifts();
+    for &inner in inners {
+        for &outer in &valid {
+            for &by in &valid {
+                let numbers = [inner, outer, by].map(u64::from);
+                for slots in 0..4 {
+                    let expected = rust_push([inner, outer], by, slots);
+                    let equal = ours.pushes(numbers, slots as u64, 3, Some(expected));
+                    tried.note(equal, || format!("push_inner({numbers:?}, {slots})"));
+                }
+            }
+            let by = valid[(usize::from(inner) * 7 + usize::from(outer) * 13) % valid.len()];
+            let numbers = [inner, outer, by].map(u64::from);
+            for (slots, as_slots) in [(1, 1), (2, 2), (4, 3), (1 << 32, 3), (u64::MAX, 3)] {
+                let expected = rust_push([inner, outer], by, as_slots);
+                for lent in [0, 1, 2, 5] {
+                    let equal = ours.pushes(numbers, slots, lent, Some(expected));
+                    tried.note(equal, || format!("push_inner({numbers:?}, {slots}), {lent} values"));
+                }
+            }
+        }
+    }
+    for &odd in &odd_numbers() {
+        for number in (0..600).step_by(7) {
+            for numbers in [[odd, number, 0], [number, odd, 1], [0, number, odd], [odd, odd, number]] {
+                for slots in 0..4 {
+                    let equal = ours.pushes(numbers, slots, 3, None);
+                    tried.note(equal, || format!("push_inner({numbers:?}, {slots})"));
+                }
+            }
+        }
+    }
+    tried
 }
 
 /// Rust and rules on every pair; and that Single and Zero have the meaning of the two shifts, on all words of `words`.
