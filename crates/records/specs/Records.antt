@@ -7,9 +7,9 @@
 --   reloaded           the first n records are those of the numbers, and the rest is as it was
 --   held               how many records' numbers the arrays take: all, or so many as there may be definitions
 --   looked             how many records are looked at where they stand: so many as count, where that is more than the arrays take
---   pastFault          the refusal of a system that has too many definitions, all of them there: 3, 4 and 5 come before 6
---   FillsFirst, FusesFirst, WritesFirst, EvaluatesFirst   the answer where n records were looked at, with a fault or none: by the first numbers,
---                      or a refusal
+--   pastFault          the refusal of a system that has too many definitions, all of them there: 3, 4 and 5 come before 6; pastOf, by its stores
+--   FillsFirst, FusesFirst, WritesFirst, EvaluatesFirst   the answer where n records were looked at, with a fault or none: by the first
+--                      numbers, or a refusal
 --
 -- Assumes nothing.
 use mathlib.Core.Path.{_≡_}

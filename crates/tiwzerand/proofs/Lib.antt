@@ -1,3 +1,4 @@
 pub mod Telling
 pub mod Once
 pub mod Zero
+pub mod Recorded

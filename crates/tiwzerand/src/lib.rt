@@ -12,6 +12,7 @@ use shift::Composed;
 use shift::Found;
 use shift::Shift;
 
+pub mod by_records;
 mod tell;
 
 fn composed(inner: u64, outer: u64) -> Composed
