@@ -1,43 +1,46 @@
 -- Two shifts in one number, a third folded in, and the mask that is carried with them. Assumes nothing.
 use mathlib.Core.Path.{_≡_, refl, sym, ap, ap₂, _∙_, subst}
 use Prim.Native.Nat.{ℕ, suc, _+_, _-_, _*_, _%_, _^_, _<_}
-use mathlib.Core.Bool.{Bool, true, false, cond}
+use mathlib.Core.Bool.{true, false}
 use mathlib.Core.List.{List}
 use native.Mathlib.Omega.{arith}
 use lib.Dec.{eqb}
 use native.Mathlib.Decide.{decLt}
 use lib.Bits.{bitAnd}
 use lib.ListN.{getD}
-use borrow.Author.Tests.{eq-eqb, ne-eqb, eqb-true}
+use borrow.Author.Tests.{eq-eqb, ne-eqb}
 use Rattle.shift.specs.declared.Shift.{Shift}
 use Rattle.shift.specs.Shifts.{Valid, numberOf, validNumber, shiftAt, applyOf}
 use Rattle.shift.specs.declared.Composition.the-variants as C
 use Rattle.shift.specs.Compose.{composeValid}
 use Rattle.shift.proofs.Linear.{shifted-lt, still}
-use Rattle.shift.proofs.Numbers.{number-back, number-valid, number-there, valid-at, valid-low}
+use Rattle.shift.proofs.Numbers.{number-back, number-valid, number-there, valid-low}
 use Rattle.operand.specs.declared.PushInner.{PushInner}
 use Rattle.operand.specs.declared.PushInner.the-variants.{Seq, Zero, OverBudget}
 use Rattle.operand.specs.Push.{loneOf, secondFold, foldOuter, firstFold, pushValid}
 use Rattle.operand.specs.Numbers.{Term, termOf, termNumber}
 use Rattle.operand.proofs.Stored.{term-there, term-back}
 use Rattle.alive.specs.Masks.{pulled}
+use Rattle.alive.proofs.Ors.{same-by}
+use Rattle.alive.proofs.Pulls.{pulled-lt, pulled-right}
 use Rattle.alive.proofs.Living.{fold-says}
 use Rattle.commit_set.proofs.Valids.{fold-valid}
 use Rattle.patch.specs.declared.Folded.{Folded}
 use Rattle.patch.specs.declared.Folded.the-variants.{Under, Nothing}
 use Rattle.patch.specs.Expansion.{under}
 use Rattle.patch.specs.Steps.{Written, writeDown}
-use Rattle.patch.specs.Spelling.{innerOf, outerOf, bare, Over, foldedAs, pull, Sees, look, lookBy, inlinedNumber}
+use Rattle.patch.specs.Spelling.{innerOf, outerOf, bare, Over, foldedAs, Sees, look, lookBy, inlinedNumber}
 use Rattle.patch.proofs.Spells.{number-low}
 use Rattle.patch.proofs.Passing.{sees-fold}
 
 -- ---- numbers
 
 -- a term less its wire
-pub shifts-bare : (t : ℕ) → termOf (t - t % 65536) ≡ bare (termOf t)
-shifts-bare t =
-    let e : t - t % 65536 ≡ termNumber (bare (termOf t)) = omega (arith, term-back t) in
-    ap termOf e ∙ term-there (bare (termOf t)) (omega arith) (omega arith)
+pub bare-number : (t : ℕ) → t - t % 65536 ≡ termNumber (bare (termOf t))
+bare-number t = omega (arith, term-back t)
+
+pub bare-there : (t : ℕ) → termOf (termNumber (bare (termOf t))) ≡ bare (termOf t)
+bare-there t = term-there (bare (termOf t)) (omega arith) (omega arith)
 
 -- and with another: a wire below the shifts of the number x
 abbrev pub beneath : ℕ → ℕ → Term
@@ -150,36 +153,29 @@ module _ (i o s : Shift) (x : ℕ) (l : Leaves i o s x) where
 
 -- ---- masks
 
-module _ (k : ℕ) (i o : Shift) (s : ℕ) (hi : Valid i) (ho : Valid o) (v′ : validNumber s ≡ true) (sees : Sees k i o) where
-  -- an identity moves no bit
-  sees-still : s % 64 ≡ 0 → (a b : Shift) → pushValid i o (shiftAt s) 2 ≡ Seq a b → Sees k a b
-  sees-still z a b e = (sees .0, λ w h. (λ q. same w h ∙ sees .1 w h .0 q, λ q. sees .1 w h .1 (sym (same w h) ∙ q)))
-    where
-      same : (w : ℕ) → w < 2 ^ 64 → applyOf b (applyOf a w) ≡ applyOf o (applyOf i w)
-      same w h =
-          fold-says i o (shiftAt s) hi ho (valid-at s v′) 2 (Seq a b) e .2 w h
-          ∙ ap (λ (y : ℕ). applyOf o (applyOf i y)) (still (shiftAt s) (valid-at s v′) z w h)
+-- an identity leaves a mask
+pub pulled-still : (s : Shift) → Valid s → s .amount ≡ 0 → (k : ℕ) → k < 2 ^ 64 → k ≡ pulled s k
+pulled-still s h z k b =
+    same-by k (pulled s k) b (pulled-lt s h k b)
+    (λ x l q. ap (λ (y : ℕ). bitAnd y k) (sym (still s h z x l)) ∙ pulled-right s h x k l b .1 q)
+    (λ x l q. pulled-right s h x k l b .0 (ap (λ (y : ℕ). bitAnd y k) (still s h z x l) ∙ q))
 
-  pub sees-pull : (x : ℕ) → Leaves i o (shiftAt s) x → Sees (pull s k) (innerOf x) (outerOf x)
-  unfolding pull
-  sees-pull x l =
-      subst (λ (a : Shift). Sees (pull s k) a (outerOf x)) (sym (leaves-inner i o (shiftAt s) x l))
-      (subst (λ (b : Shift). Sees (pull s k) (l .inside) b) (sym (leaves-outer i o (shiftAt s) x l)) (go (eqb (s % 64) 0) refl))
-    where
-      go : (b : Bool) → eqb (s % 64) 0 ≡ b → Sees (cond b k (pulled (shiftAt s) k)) (l .inside) (l .outside)
-      go true e = sees-still (eqb-true (s % 64) 0 e) (l .inside) (l .outside) (l .folds)
-      go false e = sees-fold k i o (shiftAt s) hi ho (valid-at s v′) sees (l .inside) (l .outside) (l .folds)
+module _ (k : ℕ) (i o s : Shift) (hi : Valid i) (ho : Valid o) (hs : Valid s) (sees : Sees k i o) (x : ℕ) (l : Leaves i o s x) where
+  pub sees-leaves : Sees (pulled s k) (innerOf x) (outerOf x)
+  sees-leaves =
+      subst (λ (a : Shift). Sees (pulled s k) a (outerOf x)) (sym (leaves-inner i o s x l))
+      (subst (λ (b : Shift). Sees (pulled s k) (l .inside) b) (sym (leaves-outer i o s x l)) (sees-fold k i o s hi ho hs sees (l .inside) (l .outside) (l .folds)))
 
   -- a definition of which the mask takes in something is not dead
-  pub seen-alive : (table decisions alive : List ℕ) (t : Term) (v d : ℕ) → t .inner ≡ s → v ≡ t .wire → getD alive d 0 < 2 ^ 64 → inlinedNumber decisions (getD table v 0) ≡ suc d
-      → (bitAnd (look table decisions alive t) k ≡ 0 → ⊥) → (x : ℕ) → Leaves i o (shiftAt s) x → eqb (applyOf (outerOf x) (applyOf (innerOf x) (getD alive d 0))) 0 ≡ false
+  pub seen-alive : (table decisions alive : List ℕ) (t : Term) (v d : ℕ) → shiftAt (t .inner) ≡ s → v ≡ t .wire → getD alive d 0 < 2 ^ 64 → inlinedNumber decisions (getD table v 0) ≡ suc d
+      → (bitAnd (look table decisions alive t) k ≡ 0 → ⊥) → eqb (applyOf (outerOf x) (applyOf (innerOf x) (getD alive d 0))) 0 ≡ false
   unfolding look
-  seen-alive table decisions alive t v d q r small n live x l =
+  seen-alive table decisions alive t v d q r small n live =
       ne-eqb (applyOf (outerOf x) (applyOf (innerOf x) (getD alive d 0))) 0
       (λ z. live
       (ap (λ (y : ℕ). bitAnd (lookBy alive t y) k) (ap (λ (y : ℕ). inlinedNumber decisions (getD table y 0)) (sym r) ∙ n)
-      ∙ ap (λ (y : ℕ). bitAnd (applyOf (shiftAt y) (getD alive d 0)) k) q
-      ∙ sees .1 (applyOf (shiftAt s) (getD alive d 0)) (shifted-lt (shiftAt s) (valid-at s v′) (getD alive d 0) small) .1
-      (sym (fold-says i o (shiftAt s) hi ho (valid-at s v′) 2 (Seq (l .inside) (l .outside)) (l .folds) .2 (getD alive d 0) small)
-      ∙ ap₂ (λ (a b : Shift). applyOf b (applyOf a (getD alive d 0))) (sym (leaves-inner i o (shiftAt s) x l)) (sym (leaves-outer i o (shiftAt s) x l))
+      ∙ ap (λ (y : Shift). bitAnd (applyOf y (getD alive d 0)) k) q
+      ∙ sees .1 (applyOf s (getD alive d 0)) (shifted-lt s hs (getD alive d 0) small) .1
+      (sym (fold-says i o s hi ho hs 2 (Seq (l .inside) (l .outside)) (l .folds) .2 (getD alive d 0) small)
+      ∙ ap₂ (λ (a b : Shift). applyOf b (applyOf a (getD alive d 0))) (sym (leaves-inner i o s x l)) (sym (leaves-outer i o s x l))
       ∙ z)))

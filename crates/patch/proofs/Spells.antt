@@ -5,10 +5,10 @@ use mathlib.Core.Bool.{Bool, true, false, cond}
 use mathlib.Core.List.{List, [], _∷_, map}
 use mathlib.Core.Option.{Option, none, some}
 use native.Mathlib.Omega.{arith}
-use lib.Dec.{eqb}
+use lib.Dec.{eqb, ltb}
 use native.Mathlib.Decide.{decLt}
 use lib.ListN.{length, getD, set, drop, drop-of-length-le, length-set}
-use borrow.Author.Tests.{lt-ltb, le-ltb, ne-eqb}
+use borrow.Author.Tests.{lt-ltb, le-ltb, ltb-true, ltb-false, ne-eqb}
 use Rattle.shift.specs.declared.Shift.{Shift}
 use Rattle.shift.specs.Shifts.{Valid, numberOf, shiftAt, applyOf}
 use Rattle.shift.proofs.Numbers.{number-valid, valid-low}
@@ -61,6 +61,20 @@ cursor-low c end n room e h =
 
 pub to-cursor : (l : List ℕ) (c : Cursor) → c .full ≡ false → c .count ≤ length l → speltTo l (c .count) ≡ spelt l c
 to-cursor l c e h = to-live l (c .count) h ∙ ap (wrote l (c .count) []) (sym e)
+
+-- no second number says the same
+pub to-once : (l k : List ℕ) (a b : ℕ) → a ≤ length l + 1 → b ≤ length k + 1 → speltTo l a ≡ speltTo k b → (l ≡ k) × (a ≡ b)
+unfolding speltTo
+to-once l k a b p q e = (lists, by (ltb (length l) a) refl (ltb (length k) b) refl)
+  where
+    lists : l ≡ k
+    lists = ap (λ (m : Written). m .new) e
+
+    by : (x : Bool) → ltb (length l) a ≡ x → (y : Bool) → ltb (length k) b ≡ y → a ≡ b
+    by true f true g = let h = ltb-true (length l) a f in let i = ltb-true (length k) b g in let j = ap length lists in omega (arith, h, i, j, p, q)
+    by true f false g = let z = ap {B = ℕ} (λ (m : Written). cond (m .full) 1 0) (sym (to-full l a (ltb-true (length l) a f)) ∙ e ∙ to-live k b (ltb-false (length k) b g)) in absurd (omega (arith, z))
+    by false f true g = let z = ap {B = ℕ} (λ (m : Written). cond (m .full) 1 0) (sym (to-live l a (ltb-false (length l) a f)) ∙ e ∙ to-full k b (ltb-true (length k) b g)) in absurd (omega (arith, z))
+    by false f false g = ap (λ (m : Written). m .count) (sym (to-live l a (ltb-false (length l) a f)) ∙ e ∙ to-live k b (ltb-false (length k) b g))
 
 pub below-full : (t : Term) (l : List ℕ) (n : ℕ) → length l ≤ n → speltTo l (length l + 1) ≡ put t (speltTo l n)
 unfolding put

@@ -3,11 +3,10 @@
 --   inPlace            what is put in the place of a wire, by the table of definitions and the decisions: none where the wire stands
 --   dead alive t       no bit that can be set in the wire of t gets through the shifts of t: nothing would be written
 --   spelt              the store of new terms and how far it is filled, as a state of Steps.antt; speltTo, the same where that is one
---                      number, which past the end of the store says that a term found no room
+--                      number: past the end of the store it says that a term found no room
 --   Over x             x is the number of a term with valid shifts and no wire: the two shifts that a definition's terms are written under
 --   innerOf, outerOf   the shifts of the term of a number; bare, a term with no wire
 --   foldedAs p         what a fold leaves, by such a number
---   pull s k           the bits that the shift of number s moves to the mask k; an identity leaves the mask
 --   spell              a term expanded and written; spellUnder, the terms of its definition that are left
 --   look .. u          the mask of a term u of a definition: the bits that can be set in its wire, below its shift; all where the wire stands
 --   Sees k i o         the mask k takes in just what gets through the shifts i, then o
@@ -16,7 +15,7 @@
 --
 -- Assumes nothing.
 use mathlib.Core.Path.{_≡_}
-use Prim.Native.Nat.{ℕ, zero, suc, _+_, _*_, _%_, _^_, _≤_, _<_}
+use Prim.Native.Nat.{ℕ, zero, suc, _+_, _*_, _^_, _≤_, _<_}
 use mathlib.Core.Bool.{Bool, true, false, cond}
 use mathlib.Core.List.{List, [], _∷_}
 use mathlib.Core.Option.{Option, none, some}
@@ -29,7 +28,7 @@ use Rattle.operand.specs.declared.PushInner.{PushInner}
 use Rattle.operand.specs.declared.PushInner.the-variants.{Seq, Zero, OverBudget}
 use Rattle.operand.specs.Numbers.{Term, Operand, termOf, operandAt, termsAt}
 use Rattle.operand.specs.Push.{pushValid}
-use Rattle.alive.specs.Masks.{ones, pulled}
+use Rattle.alive.specs.Masks.{ones}
 use Rattle.lower.specs.Lists.{All, someOf}
 use Rattle.lower.specs.Tables.{marked}
 use Rattle.lower.specs.Accepted.{ShiftsOf}
@@ -98,9 +97,6 @@ abbrev pub foldedAs : PushInner → Folded
 foldedAs (Seq a b) = Under (65536 * numberOf a + 4294967296 * numberOf b)
 foldedAs Zero = Nothing
 foldedAs OverBudget = Nothing
-
-unfoldable pub pull : ℕ → ℕ → ℕ
-pull s k = cond (eqb (s % 64) 0) k (pulled (shiftAt s) k)
 
 -- the terms of a definition that are left, below the shifts i and o
 unfoldable pub spellUnder : (Term → Written → Written) → Shift → Shift → Operand → Written → Written

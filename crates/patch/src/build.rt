@@ -189,6 +189,7 @@ fn build_rows<'a>(
     cur
 }
 
+// The right side as a row of one: `build_one` has one caller, so no operand costs a call.
 fn build_committed<'a>(
     old: &'a [u64],
     new: &'a [u64],

@@ -1,6 +1,7 @@
 // A term is expanded through its definition's operand, an operand through its terms, until a committed or undefined wire stands.
 // A definition may have thousands of terms that write nothing, and be met thousands of times. So one mask a term is at hand, and one mask
-// is carried down that takes in just what gets through the shifts: a term is passed over by one test.
+// is carried down that takes in just what gets through the shifts: a term is passed over by one test. The two shifts are carried down as
+// one number, spelt as in a term with no wire: a term is written by adding its wire.
 ghost use mathlib.Core.Path.{_≡_};
 ghost use mathlib.Core.Bool.{true, false};
 ghost use Prim.Native.Nat.{ℕ, _+_, _-_, _≤_, _<_};
@@ -8,8 +9,9 @@ ghost use lib.Dec.{eqb};
 ghost use lib.ListN.{length, getD, take, drop};
 ghost use lib.Bits.{bitAnd};
 ghost use Rattle.shift.specs.Shifts.{Valid, validNumber, shiftAt};
-ghost use Rattle.operand.specs.Numbers.{Term, termOf, operandAt, termsAt, operandOf};
+ghost use Rattle.operand.specs.Numbers.{Term, termOf, termNumber, operandAt, termsAt, operandOf};
 ghost use Rattle.operand.specs.Push.{pushValid};
+ghost use Rattle.alive.specs.Masks.{ones, pulled};
 ghost use Rattle.lower.specs.Lists.{All, sumOf};
 ghost use Rattle.lower.specs.Faults.{lengthOf};
 ghost use Rattle.lower.specs.Accepted.{ShiftsOf};
@@ -18,7 +20,7 @@ ghost use Rattle.legraph.specs.Tables.{toldNode};
 ghost use Rattle.legraph.specs.Walked.{rhsIn};
 ghost use Rattle.patch.specs.Expansion.{Within};
 ghost use Rattle.patch.specs.Steps.{put, writeDown};
-ghost use Rattle.patch.specs.Spelling.{source, inPlace, inlinedNumber, spelt, cursorAt, speltTo, innerOf, outerOf, bare, Over, foldedAs, pull, spellUnder, spell, Sees, look, Looked, Lookable, Looks, Opens, Readable};
+ghost use Rattle.patch.specs.Spelling.{source, inPlace, inlinedNumber, spelt, cursorAt, speltTo, innerOf, outerOf, bare, Over, foldedAs, spellUnder, spell, Sees, look, Looked, Lookable, Looks, Opens, Readable};
 use crate::Cursor;
 use crate::Folded;
 use legraph::Node;
@@ -46,9 +48,9 @@ fn put(out: &mut [u64], c: Cursor, t: u64) -> Cursor
     }
 }
 
-// The same by one number: below a definition a cursor is how many terms there are, or, once the store is full, one more than it has places.
+// The same by one number: how many terms there are, or, once a term found no room, one more than the store has places.
 fn put_below(out: &mut [u64], n: usize, t: u64) -> usize
-    ensures { λ r. ⌜ speltTo (now (out .exit)) r ≡ put (termOf t) (speltTo (now (out .entry)) n) ⌝ }
+    ensures { λ r. ⌜ (speltTo (now (out .exit)) r ≡ put (termOf t) (speltTo (now (out .entry)) n)) × (r ≤ length (now (out .entry)) + 1) ⌝ }
 {
     let end = out.len();
     if end <= n {
@@ -58,6 +60,7 @@ fn put_below(out: &mut [u64], n: usize, t: u64) -> usize
     n + 1
 }
 
+// Such a number as a cursor.
 fn cursor(end: usize, n: usize) -> Cursor
     ensures { λ r. ⌜ r ≡ cursorAt end n ⌝ }
 {
@@ -146,25 +149,15 @@ fn next_live(ms: &[u64], from: usize, mask: u64) -> usize
 
 // The two shifts of a term, spelt as there; the wire's place is empty.
 fn shifts(t: u64) -> u64
-    ensures { λ r. ⌜ termOf r ≡ bare (termOf t) ⌝ }
+    ensures { λ r. ⌜ r ≡ termNumber (bare (termOf t)) ⌝ }
 {
     t - t % 65536
 }
 
-// The bits of a word that get through both shifts of a term.
-fn through(t: u64) -> u64
-    requires { ⌜ ShiftsOf (termOf t) ⌝ }
-    ensures { λ r. ⌜ Sees r (innerOf t) (outerOf t) ⌝ }
-{
-    let inner = shift::valid::from_index(operand::term::inner(t));
-    let outer = shift::valid::from_index(operand::term::outer(t));
-    alive::pulled(inner, alive::pulled(outer, 0xffff_ffff_ffff_ffff))
-}
-
-// Most shifts of terms are identities, which leave a mask as it is.
+// The mask pulled back through the shift of number `s`. Most shifts of terms are identities (of amount 0), which leave a mask as it is.
 fn pull(s: u64, mask: u64) -> u64
     requires { ⌜ validNumber s ≡ true ⌝ }
-    ensures { λ r. ⌜ r ≡ pull s mask ⌝ }
+    ensures { λ r. ⌜ r ≡ pulled (shiftAt s) mask ⌝ }
 {
     if s % 64 == 0 {
         return mask;
@@ -172,6 +165,16 @@ fn pull(s: u64, mask: u64) -> u64
     alive::pulled(shift::valid::from_index(s), mask)
 }
 
+// The bits of a word that get through both shifts of a term.
+fn through(t: u64) -> u64
+    requires { ⌜ ShiftsOf (termOf t) ⌝ }
+    ensures { λ r. ⌜ r ≡ pulled (innerOf t) (pulled (outerOf t) ones) ⌝ }
+{
+    let mask = pull(operand::term::outer(t), 0xffff_ffff_ffff_ffff);
+    pull(operand::term::inner(t), mask)
+}
+
+// What push_inner answers, by one number.
 fn fold_shifts(inner: Shift, outer: Shift, s: Shift) -> Folded
     requires { ⌜ Valid inner × Valid outer × Valid s ⌝ }
     ensures { λ r. ⌜ r ≡ foldedAs (pushValid inner outer s 2) ⌝ }
@@ -185,8 +188,8 @@ fn fold_shifts(inner: Shift, outer: Shift, s: Shift) -> Folded
     }
 }
 
-// The shift whose number stands in the wire's place folded in below the two others. The three come as one number, so that none is taken
-// out of it before it is needed.
+// The shift whose number stands in the wire's place folded in below the two others. They come as one number, so that none is taken out of
+// it before it is needed.
 fn fold_three(x: u64) -> Folded
     requires { ⌜ (validNumber (termOf x .wire) ≡ true) × ShiftsOf (termOf x) ⌝ }
     ensures { λ r. ⌜ r ≡ foldedAs (pushValid (innerOf x) (outerOf x) (shiftAt (termOf x .wire)) 2) ⌝ }
@@ -285,9 +288,9 @@ fn expand_operand<'a>(
     requires { ⌜ Readable (source (now old) (now new) (now rhss) (now table) (now decisions) (now alive)) ⌝ }
     requires { ⌜ Opens (source (now old) (now new) (now rhss) (now table) (now decisions) (now alive)) (d .0) ⌝ }
     requires { ⌜ All (λ (u : Term). Within (inPlace (source (now old) (now new) (now rhss) (now table) (now decisions) (now alive))) below (u .wire)) (rhsIn (now old) (now new) (now rhss) (d .0)) ⌝ }
-    requires { ⌜ Over over ⌝ }
+    requires { ⌜ Over over × (n ≤ length (now out) + 1) ⌝ }
     requires { ⌜ Sees mask (innerOf over) (outerOf over) ⌝ }
-    ensures { λ r. ⌜ speltTo (now (out .exit)) r ≡ spellUnder (spell (source (now (old .entry)) (now (new .entry)) (now (rhss .entry)) (now (table .entry)) (now (decisions .entry)) (now (alive .entry))) below) (innerOf over) (outerOf over) (rhsIn (now (old .entry)) (now (new .entry)) (now (rhss .entry)) (d .0)) (speltTo (now (out .entry)) n) ⌝ }
+    ensures { λ r. ⌜ (speltTo (now (out .exit)) r ≡ spellUnder (spell (source (now (old .entry)) (now (new .entry)) (now (rhss .entry)) (now (table .entry)) (now (decisions .entry)) (now (alive .entry))) below) (innerOf over) (outerOf over) (rhsIn (now (old .entry)) (now (new .entry)) (now (rhss .entry)) (d .0)) (speltTo (now (out .entry)) n)) × (r ≤ length (now (out .entry)) + 1) ⌝ }
 {
     let i = d.0 as usize;
     let ts = lower::operand_terms(old, new, rhss[i]);
@@ -333,10 +336,10 @@ fn expand_below<'a>(
     requires { ⌜ Readable (source (now old) (now new) (now rhss) (now table) (now decisions) (now alive)) ⌝ }
     requires { ⌜ Within (inPlace (source (now old) (now new) (now rhss) (now table) (now decisions) (now alive))) below (termOf t .wire) ⌝ }
     requires { ⌜ validNumber (termOf t .inner) ≡ true ⌝ }
-    requires { ⌜ Over over ⌝ }
+    requires { ⌜ Over over × (n ≤ length (now out) + 1) ⌝ }
     requires { ⌜ Sees mask (innerOf over) (outerOf over) ⌝ }
     requires { ⌜ (bitAnd (look (now table) (now decisions) (now alive) (termOf t)) mask ≡ 0 → ⊥) ⌝ }
-    ensures { λ r. ⌜ speltTo (now (out .exit)) r ≡ writeDown (spell (source (now (old .entry)) (now (new .entry)) (now (rhss .entry)) (now (table .entry)) (now (decisions .entry)) (now (alive .entry))) below) (termOf t .wire) (pushValid (innerOf over) (outerOf over) (innerOf t) 2) (speltTo (now (out .entry)) n) ⌝ }
+    ensures { λ r. ⌜ (speltTo (now (out .exit)) r ≡ writeDown (spell (source (now (old .entry)) (now (new .entry)) (now (rhss .entry)) (now (table .entry)) (now (decisions .entry)) (now (alive .entry))) below) (termOf t .wire) (pushValid (innerOf over) (outerOf over) (innerOf t) 2) (speltTo (now (out .entry)) n)) × (r ≤ length (now (out .entry)) + 1) ⌝ }
 {
     let s = operand::term::inner(t);
     let f = fold(over, s);
@@ -365,7 +368,8 @@ fn expand_below<'a>(
     )
 }
 
-// The definition `d` in the place of a term with the shift `s`. Once the store is full nothing is done.
+// The definition `d` in the place of a term with the shift `s`. Apart from `expand_below`, so that slices are handed on here only. Once a
+// term found no room nothing is done.
 fn expand_at<'a>(
     old: &'a [u64],
     new: &'a [u64],
@@ -385,9 +389,9 @@ fn expand_at<'a>(
     requires { ⌜ Opens (source (now old) (now new) (now rhss) (now table) (now decisions) (now alive)) (d .0) ⌝ }
     requires { ⌜ (0 < below) × All (λ (u : Term). Within (inPlace (source (now old) (now new) (now rhss) (now table) (now decisions) (now alive))) (below - 1) (u .wire)) (rhsIn (now old) (now new) (now rhss) (d .0)) ⌝ }
     requires { ⌜ validNumber s ≡ true ⌝ }
-    requires { ⌜ Over over ⌝ }
-    requires { ⌜ Sees (pull s mask) (innerOf over) (outerOf over) ⌝ }
-    ensures { λ r. ⌜ speltTo (now (out .exit)) r ≡ spellUnder (spell (source (now (old .entry)) (now (new .entry)) (now (rhss .entry)) (now (table .entry)) (now (decisions .entry)) (now (alive .entry))) (below - 1)) (innerOf over) (outerOf over) (rhsIn (now (old .entry)) (now (new .entry)) (now (rhss .entry)) (d .0)) (speltTo (now (out .entry)) n) ⌝ }
+    requires { ⌜ Over over × (n ≤ length (now out) + 1) ⌝ }
+    requires { ⌜ Sees (pulled (shiftAt s) mask) (innerOf over) (outerOf over) ⌝ }
+    ensures { λ r. ⌜ (speltTo (now (out .exit)) r ≡ spellUnder (spell (source (now (old .entry)) (now (new .entry)) (now (rhss .entry)) (now (table .entry)) (now (decisions .entry)) (now (alive .entry))) (below - 1)) (innerOf over) (outerOf over) (rhsIn (now (old .entry)) (now (new .entry)) (now (rhss .entry)) (d .0)) (speltTo (now (out .entry)) n)) × (r ≤ length (now (out .entry)) + 1) ⌝ }
 {
     if out.len() < n {
         return n;

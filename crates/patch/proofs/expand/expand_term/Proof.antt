@@ -5,12 +5,14 @@ use Prim.Native.Nat.{ℕ, _-_}
 use native.Mathlib.Omega.{arith}
 use lib.ListN.{getD}
 use Rattle.shift.specs.Shifts.{validNumber, shiftAt}
+use Rattle.shift.proofs.Numbers.{valid-at}
 use Rattle.operand.specs.Numbers.{Term, Operand, termOf}
 use Rattle.legraph.specs.Tables.{toldNode}
 use Rattle.legraph.specs.Walked.{rhsIn}
 use Rattle.patch.specs.Spelling.{Source, source, inPlace, spelt, speltTo, innerOf, outerOf, spellUnder, spell, Sees}
 use Rattle.patch.proofs.Spells.{to-spelt, to-cursor, cursor-low, place-none, Placed, place-some, spell-full, spell-stands, some-left, within-below, spell-dead, spell-opens}
-use Rattle.patch.proofs.Passing.{seen-dead}
+use Rattle.patch.proofs.Passing.{sees-two, seen-dead}
+use Rattle.patch.proofs.Folds.{bare-there}
 use borrow.Author.Needs.{needs}
 use Rattle.patch.proofs.expand.expand_term.Statement.{statement}
 use Rattle.patch.proofs.expand.expand_term.Tie as tie
@@ -54,7 +56,7 @@ returns-3 c = let s = c .before .before .before .before .before .before .before 
     let q : Source = source (s .args .old .now) (s .args .new .now) (s .args .rhss .now) (s .args .table .now) (s .args .decisions .now) (s .args .alive .now) in
     let d : ℕ = c .before .before .before .before .node .given .0 .0 .0 in
     let p = subst (λ (w : ℕ). Placed q w d) (c .before .before .before .before .before .before .before .wire .ensures) (place-some q _ d (sym (c .before .before .before .before .before .before .inlined .ensures) ∙ ap toldNode (c .before .before .before .before .node .given .1))) in
-    (spell-dead q (s .args .below) (spelt (s .args .out .now) (s .args .c)) (termOf (s .args .t)) d p (s .pre .1 .0) (sym (seen-dead (c .before .before .through .result) (innerOf (s .args .t)) (outerOf (s .args .t)) (c .before .before .through .ensures) (getD (s .args .alive .now) d 0) (omega (arith, c .before .before .before .before .before .before .before .before .before .before .shared-slice-known6 .given d))) ∙ sym (c .before .is-dead .ensures) ∙ c .if2 .taken), s .pre .1 .1 .1)
+    (spell-dead q (s .args .below) (spelt (s .args .out .now) (s .args .c)) (termOf (s .args .t)) d p (s .pre .1 .0) (sym (seen-dead (c .before .before .through .result) (innerOf (s .args .t)) (outerOf (s .args .t)) (subst (λ (x : ℕ). Sees x (innerOf (s .args .t)) (outerOf (s .args .t))) (sym (c .before .before .through .ensures)) (sees-two (innerOf (s .args .t)) (outerOf (s .args .t)) (valid-at (termOf (s .args .t) .inner) (s .pre .1 .1 .0 .0)) (valid-at (termOf (s .args .t) .outer) (s .pre .1 .1 .0 .1)))) (getD (s .args .alive .now) d 0) (omega (arith, c .before .before .before .before .before .before .before .before .before .before .shared-slice-known6 .given d))) ∙ sym (c .before .is-dead .ensures) ∙ c .if2 .taken), s .pre .1 .1 .1)
 
 shifts-requires : tie.Need-shifts-requires
 shifts-requires c κs = search needs
@@ -71,8 +73,8 @@ expand-operand-requires c κs = let s = c .before .before .before .before .befor
     let q : Source = source (s .args .old .now) (s .args .new .now) (s .args .rhss .now) (s .args .table .now) (s .args .decisions .now) (s .args .alive .now) in
     let d : ℕ = c .before .before .before .before .before .before .node .given .0 .0 .0 in
     let p = subst (λ (w : ℕ). Placed q w d) (c .before .before .before .before .before .before .before .before .before .wire .ensures) (place-some q _ d (sym (c .before .before .before .before .before .before .before .before .inlined .ensures) ∙ ap toldNode (c .before .before .before .before .before .before .node .given .1))) in
-    let e = c .shifts .ensures in
-    (s .pre .0, (s .pre .0 (termOf (s .args .t) .wire) d (p .node), (within-below q (s .args .below) (spelt (s .args .out .now) (s .args .c)) (termOf (s .args .t)) d p (s .pre .1 .0), ((ap (λ (u : Term). u .wire) e, (ap (λ (u : Term). validNumber (u .inner)) e ∙ s .pre .1 .1 .0 .0, ap (λ (u : Term). validNumber (u .outer)) e ∙ s .pre .1 .1 .0 .1)), subst (λ (u : Term). Sees (c .before .before .before .before .through .result) (shiftAt (u .inner)) (shiftAt (u .outer))) (sym e) (c .before .before .before .before .through .ensures)))))
+    let e = ap termOf (c .shifts .ensures) ∙ bare-there (s .args .t) in
+    (s .pre .0, (s .pre .0 (termOf (s .args .t) .wire) d (p .node), (within-below q (s .args .below) (spelt (s .args .out .now) (s .args .c)) (termOf (s .args .t)) d p (s .pre .1 .0), (((ap (λ (u : Term). u .wire) e, (ap (λ (u : Term). validNumber (u .inner)) e ∙ s .pre .1 .1 .0 .0, ap (λ (u : Term). validNumber (u .outer)) e ∙ s .pre .1 .1 .0 .1)), omega (arith, s .pre .1 .1 .1)), subst (λ (u : Term). Sees (c .before .before .before .before .through .result) (shiftAt (u .inner)) (shiftAt (u .outer))) (sym e) (subst (λ (x : ℕ). Sees x (innerOf (s .args .t)) (outerOf (s .args .t))) (sym (c .before .before .before .before .through .ensures)) (sees-two (innerOf (s .args .t)) (outerOf (s .args .t)) (valid-at (termOf (s .args .t) .inner) (s .pre .1 .1 .0 .0)) (valid-at (termOf (s .args .t) .outer) (s .pre .1 .1 .0 .1))))))))
 
 cursor-requires : tie.Need-cursor-requires
 cursor-requires c κs = search needs
@@ -87,10 +89,10 @@ returns-4 c = let s = c .before .before .before .before .before .before .before 
     let p = subst (λ (w : ℕ). Placed q w d) (c .before .before .before .before .before .before .before .before .before .before .before .before .before .wire .ensures) (place-some q _ d (sym (c .before .before .before .before .before .before .before .before .before .before .before .before .inlined .ensures) ∙ ap toldNode (c .before .before .before .before .before .before .before .before .before .before .node .given .1))) in
     let rhs : Operand = rhsIn (s .args .old .now) (s .args .new .now) (s .args .rhss .now) d in
     let b = c .before .before .before .expand-operand in (
-      ap (spelt _) (c .cursor .ensures) ∙ to-spelt _ (b .result) ∙ b .ensures
-          ∙ ap (λ (u : Term). spellUnder (spell q (s .args .below - 1)) (shiftAt (u .inner)) (shiftAt (u .outer)) rhs (speltTo (s .args .out .now) (s .args .c .count))) (c .before .before .before .before .shifts .ensures)
+      ap (spelt _) (c .cursor .ensures) ∙ to-spelt _ (b .result) ∙ b .ensures .0
+          ∙ ap (λ (u : Term). spellUnder (spell q (s .args .below - 1)) (shiftAt (u .inner)) (shiftAt (u .outer)) rhs (speltTo (s .args .out .now) (s .args .c .count))) (ap termOf (c .before .before .before .before .shifts .ensures) ∙ bare-there (s .args .t))
           ∙ ap (spellUnder (spell q (s .args .below - 1)) (innerOf (s .args .t)) (outerOf (s .args .t)) rhs) (to-cursor (s .args .out .now) (s .args .c) (c .before .before .before .before .before .before .before .before .before .before .before .before .before .before .if1 .left) (s .pre .1 .1 .1))
-          ∙ spell-opens q (s .args .below) (spelt (s .args .out .now) (s .args .c)) (termOf (s .args .t)) d p (s .pre .1 .0) (sym (seen-dead (c .before .before .before .before .before .before .before .before .through .result) (innerOf (s .args .t)) (outerOf (s .args .t)) (c .before .before .before .before .before .before .before .before .through .ensures) (getD (s .args .alive .now) d 0) (omega (arith, c .before .before .before .before .before .before .before .before .before .before .before .before .before .before .before .before .shared-slice-known6 .given d))) ∙ sym (c .before .before .before .before .before .before .before .is-dead .ensures) ∙ c .before .before .before .before .before .before .if2 .left),
+          ∙ spell-opens q (s .args .below) (spelt (s .args .out .now) (s .args .c)) (termOf (s .args .t)) d p (s .pre .1 .0) (sym (seen-dead (c .before .before .before .before .before .before .before .before .through .result) (innerOf (s .args .t)) (outerOf (s .args .t)) (subst (λ (x : ℕ). Sees x (innerOf (s .args .t)) (outerOf (s .args .t))) (sym (c .before .before .before .before .before .before .before .before .through .ensures)) (sees-two (innerOf (s .args .t)) (outerOf (s .args .t)) (valid-at (termOf (s .args .t) .inner) (s .pre .1 .1 .0 .0)) (valid-at (termOf (s .args .t) .outer) (s .pre .1 .1 .0 .1)))) (getD (s .args .alive .now) d 0) (omega (arith, c .before .before .before .before .before .before .before .before .before .before .before .before .before .before .before .before .shared-slice-known6 .given d))) ∙ sym (c .before .before .before .before .before .before .before .is-dead .ensures) ∙ c .before .before .before .before .before .before .if2 .left),
       cursor-low (c .cursor .result) _ _ _ (c .cursor .ensures) (b .kept .1 .1 .1 .1 .1 .1 .0),
     )
 

@@ -1,4 +1,5 @@
 -- The two ways of the definition, room or none, by one number. Assumes nothing.
+use native.Mathlib.Omega.{arith}
 use Rattle.patch.proofs.Spells.{below-full, below-room}
 use Rattle.patch.specs.Spelling.{speltTo}
 use Rattle.operand.proofs.Stored.{term-back}
@@ -14,7 +15,7 @@ add-result : tie.Need-add-result
 add-result c = search needs
 
 returns : tie.Need-returns
-returns c = let s = c .before in below-full (termOf (s .args .t)) (s .args .out .now) (s .args .n) (c .if1 .taken)
+returns c = let s = c .before in (below-full (termOf (s .args .t)) (s .args .out .now) (s .args .n) (c .if1 .taken), omega arith)
 
 mul-out : tie.Need-mul-out
 mul-out c = search needs
@@ -29,7 +30,10 @@ same-length : tie.Need-same-length
 same-length c = search needs
 
 returns-2 : tie.Need-returns-2
-returns-2 c = let s = c .before in ap (λ (v : ℕ). speltTo (set (s .args .out .now) (s .args .n) v) (s .args .n + 1)) (sym (term-back (s .args .t))) ∙ below-room (termOf (s .args .t)) (s .args .out .now) (s .args .n) (c .if1 .left)
+returns-2 c = let s = c .before in (
+  ap (λ (v : ℕ). speltTo (set (s .args .out .now) (s .args .n) v) (s .args .n + 1)) (sym (term-back (s .args .t))) ∙ below-room (termOf (s .args .t)) (s .args .out .now) (s .args .n) (c .if1 .left),
+  omega (arith, c .if1 .left),
+)
 
 pub put-below-spec : {M : Type 1} → statement M
 put-below-spec =
