@@ -4,7 +4,7 @@ use Prim.Native.Nat.{ℕ, zero, suc}
 use native.Mathlib.Omega.{arith}
 use mathlib.Core.Bool.{Bool, true, false, cond}
 use mathlib.Core.List.{List, [], _∷_}
-use lib.ListN.{length, replicate, length-replicate}
+use lib.ListN.{length, replicate}
 use lib.Seq.{sets}
 use lib.Dec.{eqb}
 use Rattle.shift.specs.declared.ShiftVariant.the-variants.{Sll}

@@ -6,3 +6,4 @@ pub mod Once
 pub mod Theorem
 pub mod Example
 pub mod Long
+pub mod Standing

@@ -127,7 +127,7 @@ module _ (slots : ℕ) (z : Sizes) (m l : Lent) (k : Counts) (d : FusedDone slot
       ap (λ (x : Lent). take (z .wires) (x .flags)) (d .patched .left)
       ∙ take-front (flagsOf p c) (m .flags) (z .wires) flags-length (omega (arith, room p c m (d .patched .fits) .flags-long, wires-are))
 
-  was-patched : Patched slots z k l p (d .st)
+  pub was-patched : Patched slots z k l p (d .st)
   was-patched =
       record {
         accepted = acc;

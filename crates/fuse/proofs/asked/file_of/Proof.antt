@@ -1,6 +1,5 @@
 -- No slots, or some. Assumes nothing.
 use borrow.Author.Tests.{eq-eqb, ne-eqb}
-use borrow.Author.Needs.{needs}
 use Rattle.fuse.proofs.asked.file_of.Statement.{statement}
 use Rattle.fuse.proofs.asked.file_of.Tie as tie
 
