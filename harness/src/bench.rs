@@ -12,7 +12,7 @@ use crate::{
     circuits::{CIRCUITS, Circuit, Sized},
     compare::{Totals, faults_of},
     evaluate::broken,
-    library::{self, Library, ListsMut},
+    library::{self, DefinitionsMut, Library, ListsMut},
     oracle,
     ours::Image,
     outcome::{Fused, Outcome},
@@ -66,8 +66,7 @@ impl OurPass {
     fn pass_of_ours(&mut self, slots: usize) {
         let lists = ListsMut {
             rows: self.lists.rows.each_mut().map(Vec::as_mut_slice),
-            dsts: &mut self.lists.dsts,
-            rhss: &mut self.lists.rhss,
+            definitions: DefinitionsMut::Numbers(&mut self.lists.dsts, &mut self.lists.rhss),
         };
         let old = &self.image.old;
         let sizes = self.image.sizes;

@@ -320,15 +320,15 @@ pub struct Read {
     pub no_room: u64,
 }
 
-/// The project's own reader, and how long its stores are: as the good file needs them, or longer.
+/// The project's own reader in its forms, and how long its stores are: as the good file needs them, or longer.
 pub struct ThirdReader {
-    ours: Ours,
+    ours: Vec<Ours>,
     room: Room,
     reads: u64,
 }
 
 impl ThirdReader {
-    pub fn new(ours: Ours) -> Self {
+    pub fn new(ours: Vec<Ours>) -> Self {
         Self { ours, room: Room::of(&System::new(1), Length::Full), reads: 0 }
     }
 
@@ -340,25 +340,20 @@ impl ThirdReader {
     /// What is wrong about its answer, in words; and whether it is ROOM.
     fn fault_of(&mut self, bytes: &[u8], by_first: &Result<System, Fault>) -> (Option<String>, bool) {
         self.reads += 1;
-        let given = self.ours.read(bytes, &self.room, 7 + self.reads as usize % 2);
-        match by_first {
-            Ok(system) if !self.room.holds(system) => {
-                let expected = Err(Fault { refusal: ROOM, offset: bytes.len() });
-                (fault_of_read(given, &expected), true)
-            }
-            _ => (fault_of_read(given, by_first), false),
-        }
+        let no_room = by_first.as_ref().is_ok_and(|system| !self.room.holds(system));
+        let full = Err(Fault { refusal: ROOM, offset: bytes.len() });
+        let expected = if no_room { &full } else { by_first };
+        let values = 7 + self.reads as usize % 2;
+        let fault = self.ours.iter_mut().find_map(|ours| {
+            let fault = fault_of_read(ours.read(bytes, &self.room, values), expected)?;
+            Some(format!("{:?}: {fault}", ours.form()))
+        });
+        (fault, no_room)
     }
 }
 
 impl Read {
-    fn note(
-        &mut self,
-        third: &mut Option<ThirdReader>,
-        bytes: &[u8],
-        expected: Option<Fault>,
-        what: impl Fn() -> String,
-    ) {
+    fn note(&mut self, third: &mut ThirdReader, bytes: &[u8], expected: Option<Fault>, what: impl Fn() -> String) {
         let first = house::read(bytes);
         let second = second_reader::read(bytes);
         let agree = match (&first, &second) {
@@ -371,8 +366,8 @@ impl Read {
             Ok(_) => self.accepted += 1,
             Err(fault) => self.refused[usize::from(fault.refusal)] += 1,
         }
-        if let Some(third) = third {
-            self.ours += 1;
+        if !third.ours.is_empty() {
+            self.ours += third.ours.len() as u64;
             let (fault, no_room) = third.fault_of(bytes, &first);
             self.no_room += u64::from(no_room);
             if let Some(fault) = fault {
@@ -394,8 +389,8 @@ pub fn run(first: u64, count: u64) -> Read {
 }
 
 /// The same with this library as the third reader.
-pub fn run_with(ours: Option<Ours>, first: u64, count: u64) -> Read {
-    let mut third = ours.map(ThirdReader::new);
+pub fn run_with(ours: Vec<Ours>, first: u64, count: u64) -> Read {
+    let mut third = ThirdReader::new(ours);
     let mut read = Read::default();
     for damaged in over_limits() {
         read.known += 1;
@@ -405,9 +400,7 @@ pub fn run_with(ours: Option<Ours>, first: u64, count: u64) -> Read {
     let drawn = (first..first + count).map(|seed| (format!("seed {seed}"), good_file(seed)));
     for (seed, (name, good)) in std::iter::once(least).chain(drawn).enumerate() {
         let seed = first + seed as u64;
-        if let Some(third) = &mut third {
-            third.lend_for(&good, seed);
-        }
+        third.lend_for(&good, seed);
         read.note(&mut third, &good, None, || name.clone());
         for damaged in damaged(&good) {
             read.known += 1;

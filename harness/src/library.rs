@@ -43,11 +43,6 @@ functions! {
         In, Len, Out, Len, Out, Len, Out, Len, Out, Len, Out, Len, *mut u16, Len, Out, Len, *mut u8, Len,
         usize, usize, usize, usize, usize, usize, u64, Out, Len,
     );
-    #[cfg(feature = "records")]
-    FuseRecords = tiwzerand_fuse_records(
-        In, Len, Out, Len, Out, Len, Out, Len, Out, Len, Out, Len, *mut Record, Len, *mut u8, Len,
-        usize, usize, usize, usize, usize, usize, u64, Out, Len,
-    );
     Write = tiwzerand_write(
         In, Len, In, Len, In, Len, In, Len, In, Len, In, Len, *const u16, Len, In, Len,
         usize, usize, usize, usize, usize, usize, *mut u8, Len, Out, Len,
@@ -60,15 +55,50 @@ functions! {
         In, Len, In, Len, In, Len, In, Len, In, Len, *const u16, Len, In, Len,
         usize, usize, usize, usize, usize, usize, *const u8, Len, Out, Len,
     );
+    #[cfg(feature = "records")]
+    ReadRecords = tiwzerand_read_records(
+        *const u8, Len, Out, Len, Out, Len, Out, Len, Out, Len, Out, Len, *mut Record, Len, Out, Len,
+    );
+    #[cfg(feature = "records")]
+    FuseRecords = tiwzerand_fuse_records(
+        In, Len, Out, Len, Out, Len, Out, Len, Out, Len, Out, Len, *mut Record, Len, *mut u8, Len,
+        usize, usize, usize, usize, usize, usize, u64, Out, Len,
+    );
+    #[cfg(feature = "records")]
+    WriteRecords = tiwzerand_write_records(
+        In, Len, In, Len, In, Len, In, Len, In, Len, In, Len, *const Record, Len,
+        usize, usize, usize, usize, usize, usize, *mut u8, Len, Out, Len,
+    );
+    #[cfg(feature = "records")]
+    EvaluateRecords = tiwzerand_evaluate_records(
+        In, Len, In, Len, In, Len, In, Len, In, Len, In, Len, *const Record, Len,
+        usize, usize, usize, usize, usize, usize, In, Len, Out, Len, Out, Len,
+    );
+    #[cfg(feature = "records")]
+    FillBackRecords = tiwzerand_fill_back_records(
+        In, Len, In, Len, In, Len, In, Len, In, Len, *const Record, Len,
+        usize, usize, usize, usize, usize, usize, *const u8, Len, Out, Len,
+    );
+}
+
+/// The functions over records.
+#[derive(Copy, Clone)]
+pub struct OverRecords {
+    pub read: ReadRecords,
+    pub fuse: FuseRecords,
+    pub write: WriteRecords,
+    pub evaluate: EvaluateRecords,
+    pub fill_back: FillBackRecords,
 }
 
 /// What a call left, for a test to spoil.
 pub struct Answer<'a> {
     pub of: &'static str,
     pub refusal: &'a mut Refusal,
-    /// Terms, rows, right sides, words, and the values last.
+    /// Terms, rows, right sides unless there are records, words, and the values last.
     pub numbers: &'a mut [&'a mut [u64]],
     pub dsts: &'a mut [u16],
+    pub records: &'a mut [Record],
     pub bytes: &'a mut [u8],
 }
 
@@ -78,11 +108,11 @@ pub struct Library {
     pub push_inner: PushInner,
     pub read: Read,
     pub fuse: Fuse,
-    /// Nothing without the feature `records`.
-    pub fuse_records: Option<FuseRecords>,
     pub write: Write,
     pub evaluate: Evaluate,
     pub fill_back: FillBack,
+    /// Nothing without the feature `records`.
+    pub over_records: Option<OverRecords>,
     /// Makes a wrong library of a right one: what it changes has to be noticed.
     pub spoil: Option<fn(Answer<'_>)>,
 }
@@ -91,18 +121,24 @@ pub struct Library {
 #[cfg(feature = "ours")]
 pub fn linked() -> Option<&'static Library> {
     #[cfg(feature = "records")]
-    const FUSE_RECORDS: Option<FuseRecords> = Some(symbols::tiwzerand_fuse_records);
+    const OVER_RECORDS: Option<OverRecords> = Some(OverRecords {
+        read: symbols::tiwzerand_read_records,
+        fuse: symbols::tiwzerand_fuse_records,
+        write: symbols::tiwzerand_write_records,
+        evaluate: symbols::tiwzerand_evaluate_records,
+        fill_back: symbols::tiwzerand_fill_back_records,
+    });
     #[cfg(not(feature = "records"))]
-    const FUSE_RECORDS: Option<FuseRecords> = None;
+    const OVER_RECORDS: Option<OverRecords> = None;
     static LINKED: Library = Library {
         compose: symbols::tiwzerand_compose,
         push_inner: symbols::tiwzerand_push_inner,
         read: symbols::tiwzerand_read,
         fuse: symbols::tiwzerand_fuse,
-        fuse_records: FUSE_RECORDS,
         write: symbols::tiwzerand_write,
         evaluate: symbols::tiwzerand_evaluate,
         fill_back: symbols::tiwzerand_fill_back,
+        over_records: OVER_RECORDS,
         spoil: None,
     };
     Some(&LINKED)
@@ -121,19 +157,29 @@ pub struct Sizes {
     pub counts: [usize; 5],
 }
 
+/// Definitions that a call only reads: destinations and right sides, or records of both. Which function is called goes by the form.
+#[derive(Copy, Clone)]
+pub enum Definitions<'a> {
+    Numbers(&'a [u16], &'a [u64]),
+    Records(&'a [Record]),
+}
+
 /// Lists that a call only reads.
 #[derive(Copy, Clone)]
 pub struct Lists<'a> {
     pub rows: [&'a [u64]; 4],
-    pub dsts: &'a [u16],
-    pub rhss: &'a [u64],
+    pub definitions: Definitions<'a>,
+}
+
+pub enum DefinitionsMut<'a> {
+    Numbers(&'a mut [u16], &'a mut [u64]),
+    Records(&'a mut [Record]),
 }
 
 /// Lists that a call may fill.
 pub struct ListsMut<'a> {
     pub rows: [&'a mut [u64]; 4],
-    pub dsts: &'a mut [u16],
-    pub rhss: &'a mut [u64],
+    pub definitions: DefinitionsMut<'a>,
 }
 
 /// `call!(f, [in a b] [out c] [is d] ..)`: pointer and length of each slice, and numbers as they are.
@@ -151,41 +197,61 @@ macro_rules! call {
     ($f:expr, $($rest:tt)*) => { call!(@ $f, (), $($rest)*) };
 }
 
-// Safe: each call hands over pointer and length of one slice, and a mutable one only of a slice that is borrowed for the call alone.
-#[allow(clippy::too_many_arguments)]
-impl Library {
-    fn left<'a>(
-        &self,
-        of: &'static str,
-        refusal: &'a mut Refusal,
-        numbers: &'a mut [&'a mut [u64]],
-        dsts: &'a mut [u16],
-        bytes: &'a mut [u8],
-    ) {
-        if let Some(spoil) = self.spoil {
-            spoil(Answer { of, refusal, numbers, dsts, bytes });
+/// What a call left, to be spoilt by a test. Names that are not given are empty.
+macro_rules! left {
+    ($library:expr, $of:expr, $refusal:ident, [$($numbers:expr),*] $(, $name:ident: $value:expr)*) => {
+        if let Some(spoil) = $library.spoil {
+            let empty = Answer {
+                of: $of,
+                refusal: &mut $refusal,
+                numbers: &mut [$($numbers),*],
+                dsts: &mut [],
+                records: &mut [],
+                bytes: &mut [],
+            };
+            #[allow(clippy::needless_update)]
+            spoil(Answer { $($name: $value,)* ..empty });
         }
+    };
+}
+
+// Safe: each call hands over pointer and length of one slice, and a mutable one only of a slice that is borrowed for the call alone.
+impl Library {
+    fn over_records(&self) -> &OverRecords {
+        self.over_records.as_ref().expect("the form over records is linked where records are lent")
     }
 
     pub fn compose(&self, inner: u64, outer: u64, values: &mut [u64]) -> Refusal {
         let mut refusal = call!((self.compose), [is inner, outer] [out values]);
-        self.left("compose", &mut refusal, &mut [values], &mut [], &mut []);
+        left!(self, "compose", refusal, [values]);
         refusal
     }
 
     pub fn push_inner(&self, inner: u64, outer: u64, shift: u64, slots: u64, values: &mut [u64]) -> Refusal {
         let mut refusal = call!((self.push_inner), [is inner, outer, shift, slots] [out values]);
-        self.left("push_inner", &mut refusal, &mut [values], &mut [], &mut []);
+        left!(self, "push_inner", refusal, [values]);
         refusal
     }
 
     pub fn read(&self, input: &[u8], terms: &mut [u64], lists: ListsMut<'_>, values: &mut [u64]) -> Refusal {
-        let ListsMut { rows: [ands, imuls, bmuls, zeros], dsts, rhss } = lists;
-        let mut refusal = call!((self.read), [in input] [out terms, ands, imuls, bmuls, zeros, dsts, rhss, values]);
-        self.left("read", &mut refusal, &mut [terms, ands, imuls, bmuls, zeros, rhss, values], dsts, &mut []);
-        refusal
+        let ListsMut { rows: [ands, imuls, bmuls, zeros], definitions } = lists;
+        match definitions {
+            DefinitionsMut::Numbers(dsts, rhss) => {
+                let mut refusal =
+                    call!((self.read), [in input] [out terms, ands, imuls, bmuls, zeros, dsts, rhss, values]);
+                left!(self, "read", refusal, [terms, ands, imuls, bmuls, zeros, rhss, values], dsts: dsts);
+                refusal
+            }
+            DefinitionsMut::Records(records) => {
+                let read = self.over_records().read;
+                let mut refusal = call!(read, [in input] [out terms, ands, imuls, bmuls, zeros, records, values]);
+                left!(self, "read", refusal, [terms, ands, imuls, bmuls, zeros, values], records: records);
+                refusal
+            }
+        }
     }
 
+    #[allow(clippy::too_many_arguments)]
     pub fn fuse(
         &self,
         old: &[u64],
@@ -196,33 +262,24 @@ impl Library {
         slots: u64,
         values: &mut [u64],
     ) -> Refusal {
-        let ListsMut { rows: [ands, imuls, bmuls, zeros], dsts, rhss } = lists;
+        let ListsMut { rows: [ands, imuls, bmuls, zeros], definitions } = lists;
         let Sizes { wires, counts: [a, i, b, z, l] } = sizes;
-        let mut refusal = call!((self.fuse), [in old] [out new, ands, imuls, bmuls, zeros, dsts, rhss, flags]
-            [is wires, a, i, b, z, l, slots] [out values]);
-        self.left("fuse", &mut refusal, &mut [new, ands, imuls, bmuls, zeros, rhss, values], dsts, flags);
-        refusal
-    }
-
-    /// Nothing where the library is linked without its records.
-    pub fn fuse_records(
-        &self,
-        old: &[u64],
-        new: &mut [u64],
-        rows: [&mut [u64]; 4],
-        defs: &mut [Record],
-        flags: &mut [u8],
-        sizes: Sizes,
-        slots: u64,
-        values: &mut [u64],
-    ) -> Option<Refusal> {
-        let [ands, imuls, bmuls, zeros] = rows;
-        let Sizes { wires, counts: [a, i, b, z, l] } = sizes;
-        let fuse_records = self.fuse_records?;
-        let mut refusal = call!(fuse_records, [in old] [out new, ands, imuls, bmuls, zeros, defs, flags]
-            [is wires, a, i, b, z, l, slots] [out values]);
-        self.left("fuse_records", &mut refusal, &mut [new, ands, imuls, bmuls, zeros, values], &mut [], flags);
-        Some(refusal)
+        match definitions {
+            DefinitionsMut::Numbers(dsts, rhss) => {
+                let mut refusal = call!((self.fuse), [in old]
+                    [out new, ands, imuls, bmuls, zeros, dsts, rhss, flags] [is wires, a, i, b, z, l, slots]
+                    [out values]);
+                left!(self, "fuse", refusal, [new, ands, imuls, bmuls, zeros, rhss, values], dsts: dsts, bytes: flags);
+                refusal
+            }
+            DefinitionsMut::Records(records) => {
+                let fuse = self.over_records().fuse;
+                let mut refusal = call!(fuse, [in old] [out new, ands, imuls, bmuls, zeros, records, flags]
+                    [is wires, a, i, b, z, l, slots] [out values]);
+                left!(self, "fuse", refusal, [new, ands, imuls, bmuls, zeros, values], records: records, bytes: flags);
+                refusal
+            }
+        }
     }
 
     pub fn write(
@@ -234,14 +291,24 @@ impl Library {
         out: &mut [u8],
         values: &mut [u64],
     ) -> Refusal {
-        let Lists { rows: [ands, imuls, bmuls, zeros], dsts, rhss } = lists;
+        let Lists { rows: [ands, imuls, bmuls, zeros], definitions } = lists;
         let Sizes { wires, counts: [a, i, b, z, l] } = sizes;
-        let mut refusal = call!((self.write), [in old, new, ands, imuls, bmuls, zeros, dsts, rhss]
-            [is wires, a, i, b, z, l] [out out, values]);
-        self.left("write", &mut refusal, &mut [values], &mut [], out);
+        let mut refusal = match definitions {
+            Definitions::Numbers(dsts, rhss) => {
+                call!((self.write), [in old, new, ands, imuls, bmuls, zeros, dsts, rhss]
+                [is wires, a, i, b, z, l] [out out, values])
+            }
+            Definitions::Records(records) => {
+                let write = self.over_records().write;
+                call!(write, [in old, new, ands, imuls, bmuls, zeros, records] [is wires, a, i, b, z, l]
+                    [out out, values])
+            }
+        };
+        left!(self, "write", refusal, [values], bytes: out);
         refusal
     }
 
+    #[allow(clippy::too_many_arguments)]
     pub fn evaluate(
         &self,
         old: &[u64],
@@ -252,11 +319,19 @@ impl Library {
         out: &mut [u64],
         values: &mut [u64],
     ) -> Refusal {
-        let Lists { rows: [ands, imuls, bmuls, zeros], dsts, rhss } = lists;
+        let Lists { rows: [ands, imuls, bmuls, zeros], definitions } = lists;
         let Sizes { wires, counts: [a, i, b, z, l] } = sizes;
-        let mut refusal = call!((self.evaluate), [in old, new, ands, imuls, bmuls, zeros, dsts, rhss]
-            [is wires, a, i, b, z, l] [in assignment] [out out, values]);
-        self.left("evaluate", &mut refusal, &mut [out, values], &mut [], &mut []);
+        let mut refusal = match definitions {
+            Definitions::Numbers(dsts, rhss) => call!((self.evaluate),
+                [in old, new, ands, imuls, bmuls, zeros, dsts, rhss] [is wires, a, i, b, z, l] [in assignment]
+                [out out, values]),
+            Definitions::Records(records) => {
+                let evaluate = self.over_records().evaluate;
+                call!(evaluate, [in old, new, ands, imuls, bmuls, zeros, records] [is wires, a, i, b, z, l]
+                    [in assignment] [out out, values])
+            }
+        };
+        left!(self, "evaluate", refusal, [out, values]);
         refusal
     }
 
@@ -268,11 +343,18 @@ impl Library {
         flags: &[u8],
         assignment: &mut [u64],
     ) -> Refusal {
-        let Lists { rows: [ands, imuls, bmuls, zeros], dsts, rhss } = lists;
+        let Lists { rows: [ands, imuls, bmuls, zeros], definitions } = lists;
         let Sizes { wires, counts: [a, i, b, z, l] } = sizes;
-        let mut refusal = call!((self.fill_back), [in old, ands, imuls, bmuls, zeros, dsts, rhss]
-            [is wires, a, i, b, z, l] [in flags] [out assignment]);
-        self.left("fill_back", &mut refusal, &mut [assignment], &mut [], &mut []);
+        let mut refusal = match definitions {
+            Definitions::Numbers(dsts, rhss) => call!((self.fill_back), [in old, ands, imuls, bmuls, zeros, dsts, rhss]
+                [is wires, a, i, b, z, l] [in flags] [out assignment]),
+            Definitions::Records(records) => {
+                let fill_back = self.over_records().fill_back;
+                call!(fill_back, [in old, ands, imuls, bmuls, zeros, records] [is wires, a, i, b, z, l] [in flags]
+                    [out assignment])
+            }
+        };
+        left!(self, "fill_back", refusal, [assignment]);
         refusal
     }
 }

@@ -7,7 +7,7 @@ use std::cell::RefCell;
 use crate::{
     house::{Fault, Refusal},
     lent::Lent,
-    library::{self, Library, Lists, ListsMut, Record, Sizes},
+    library::{self, Definitions, DefinitionsMut, Library, Lists, ListsMut, Record, Sizes},
     outcome::{Fused, Outcome},
     system::{
         Definition, KINDS, MAX_DEFINITIONS, MAX_OTHERS, MAX_TERMS, MAX_WIRES, NAMES, OPERANDS, Operand, System, Term,
@@ -65,7 +65,16 @@ impl Image {
     }
 
     pub fn lists(&self) -> Lists<'_> {
-        Lists { rows: self.rows.each_ref().map(Vec::as_slice), dsts: &self.dsts, rhss: &self.rhss }
+        self.lists_with(Definitions::Numbers(&self.dsts, &self.rhss))
+    }
+
+    fn lists_with<'a>(&'a self, definitions: Definitions<'a>) -> Lists<'a> {
+        Lists { rows: self.rows.each_ref().map(Vec::as_slice), definitions }
+    }
+
+    /// The definitions as records; as many as both lists have.
+    fn records(&self) -> impl Iterator<Item = Record> {
+        self.dsts.iter().zip(&self.rhss).map(|(&dst, &rhs)| Record { rhs, dst })
     }
 }
 
@@ -83,9 +92,15 @@ pub fn system_of(old: &[u64], new: &[u64], lists: Lists<'_>, sizes: Sizes) -> Re
         let rows = rows.map(|row| row.iter().map(|&number| operand_of(old, new, number)).collect());
         system.others[kind] = rows.collect::<Result<_, _>>()?;
     }
-    let definitions = lists.dsts.iter().zip(lists.rhss).take(sizes.counts[KINDS]);
-    let definitions = definitions.map(|(&dst, &rhs)| Ok(Definition { dst, rhs: operand_of(old, new, rhs)? }));
-    system.linears = definitions.collect::<Result<_, String>>()?;
+    let define = |dst, rhs| Ok(Definition { dst, rhs: operand_of(old, new, rhs)? });
+    let count = sizes.counts[KINDS];
+    let definitions: Result<_, String> = match lists.definitions {
+        Definitions::Numbers(dsts, rhss) => {
+            dsts.iter().zip(rhss).take(count).map(|(&dst, &rhs)| define(dst, rhs)).collect()
+        }
+        Definitions::Records(records) => records.iter().take(count).map(|of| define(of.dst, of.rhs)).collect(),
+    };
+    system.linears = definitions?;
     Ok(system)
 }
 
@@ -171,12 +186,24 @@ impl Calls {
     }
 }
 
-/// The six stores of the five lists.
+/// How definitions stand in memory.
+#[derive(Copy, Clone, Debug, Default, PartialEq, Eq)]
+pub enum Form {
+    #[default]
+    Numbers,
+    Records,
+}
+
+/// The stores of the five lists: those of the form are lent.
 #[derive(Default)]
 struct LentLists {
+    form: Form,
     rows: [Lent<u64>; KINDS],
     dsts: Lent<u16>,
     rhss: Lent<u64>,
+    records: Lent<Record>,
+    /// What the records were laid over.
+    front: Vec<Record>,
 }
 
 impl LentLists {
@@ -185,24 +212,56 @@ impl LentLists {
             let len = length.of(image.rows[kind].len(), MAX_OTHERS * OPERANDS[kind]);
             self.rows[kind].lay(&image.rows[kind], len);
         }
-        self.dsts.lay(&image.dsts, length.of(image.dsts.len(), MAX_DEFINITIONS));
-        self.rhss.lay(&image.rhss, length.of(image.rhss.len(), MAX_DEFINITIONS));
+        let [dsts, rhss] = [image.dsts.len(), image.rhss.len()].map(|need| length.of(need, MAX_DEFINITIONS));
+        self.lay_definitions(image, dsts, rhss);
+    }
+
+    /// Blank, in so much room.
+    fn lay_room(&mut self, none: &Image, room: &Room) {
+        for kind in 0..KINDS {
+            self.rows[kind].lay(&[], room.rows[kind]);
+        }
+        self.lay_definitions(none, room.dsts, room.rhss);
+    }
+
+    fn lay_definitions(&mut self, image: &Image, dsts: usize, rhss: usize) {
+        match self.form {
+            Form::Numbers => {
+                self.dsts.lay(&image.dsts, dsts);
+                self.rhss.lay(&image.rhss, rhss);
+            }
+            Form::Records => {
+                self.front.clear();
+                self.front.extend(image.records());
+                self.records.lay(&self.front, dsts.min(rhss));
+            }
+        }
     }
 
     fn cells(&self) -> Lists<'_> {
-        Lists { rows: self.rows.each_ref().map(Lent::cells), dsts: self.dsts.cells(), rhss: self.rhss.cells() }
+        let definitions = match self.form {
+            Form::Numbers => Definitions::Numbers(self.dsts.cells(), self.rhss.cells()),
+            Form::Records => Definitions::Records(self.records.cells()),
+        };
+        Lists { rows: self.rows.each_ref().map(Lent::cells), definitions }
     }
 
     fn cells_mut(&mut self) -> ListsMut<'_> {
-        let rows = self.rows.each_mut().map(Lent::cells_mut);
-        ListsMut { rows, dsts: self.dsts.cells_mut(), rhss: self.rhss.cells_mut() }
+        let definitions = match self.form {
+            Form::Numbers => DefinitionsMut::Numbers(self.dsts.cells_mut(), self.rhss.cells_mut()),
+            Form::Records => DefinitionsMut::Records(self.records.cells_mut()),
+        };
+        ListsMut { rows: self.rows.each_mut().map(Lent::cells_mut), definitions }
     }
 
     /// The first list that is not as it was laid from these counts on.
     fn changed(&self, image: &Image, from: [usize; 5]) -> Option<&'static str> {
         let row = (0..KINDS).find(|&kind| !self.rows[kind].keeps(&image.rows[kind], from[kind] * OPERANDS[kind]));
         let definition = || {
-            let kept = self.dsts.keeps(&image.dsts, from[KINDS]) && self.rhss.keeps(&image.rhss, from[KINDS]);
+            let kept = match self.form {
+                Form::Numbers => self.dsts.keeps(&image.dsts, from[KINDS]) && self.rhss.keeps(&image.rhss, from[KINDS]),
+                Form::Records => self.records.keeps(&self.front, from[KINDS]),
+            };
             (!kept).then_some("linear")
         };
         row.map(|kind| NAMES[kind]).or_else(definition)
@@ -257,14 +316,25 @@ pub struct Ours {
     old: Lent<u64>,
     new: Lent<u64>,
     lists: LentLists,
-    records: Lent<Record>,
     flags: Lent<u8>,
     bytes: Lent<u8>,
     words: Lent<u64>,
     out: Lent<u64>,
     values: Lent<u64>,
+    /// Records that are only read.
+    front: Vec<Record>,
     /// How much of the lists counts after the last call that filled them.
     after: Sizes,
+}
+
+/// An image's definitions in a form.
+fn definitions_of<'a>(image: &'a Image, form: Form, front: &'a mut Vec<Record>) -> Definitions<'a> {
+    if form == Form::Numbers {
+        return Definitions::Numbers(&image.dsts, &image.rhss);
+    }
+    front.clear();
+    front.extend(image.records());
+    Definitions::Records(front)
 }
 
 /// Where a system is taken from that is written or evaluated.
@@ -276,42 +346,44 @@ pub enum Source<'a> {
 }
 
 impl Ours {
-    pub fn new(library: &Library) -> Self {
+    /// The library over destinations and right sides, and over records where it has that form.
+    pub fn forms(library: &Library) -> Vec<Self> {
+        let records = library.over_records.map(|_| Form::Records);
+        [Some(Form::Numbers), records].into_iter().flatten().map(|form| Self::new(library, form)).collect()
+    }
+
+    /// The library that is linked, in its forms; none without the feature `ours`.
+    pub fn linked() -> Vec<Self> {
+        library::linked().map_or(Vec::new(), Self::forms)
+    }
+
+    pub fn new(library: &Library, form: Form) -> Self {
         Self {
             library: *library,
             calls: Calls::default(),
             none: Image::default(),
             old: Lent::default(),
             new: Lent::default(),
-            lists: LentLists::default(),
-            records: Lent::default(),
+            lists: LentLists { form, ..LentLists::default() },
             flags: Lent::default(),
             bytes: Lent::default(),
             words: Lent::default(),
             out: Lent::default(),
             values: Lent::default(),
+            front: Vec::new(),
             after: Sizes::default(),
         }
     }
 
-    /// The library that is linked; nothing without the feature `ours`.
-    pub fn linked() -> Option<Self> {
-        library::linked().map(Self::new)
-    }
-
-    pub fn library(&self) -> &Library {
-        &self.library
+    pub fn form(&self) -> Form {
+        self.lists.form
     }
 
     /// Reads a file into stores of so many cells.
     pub fn read(&mut self, bytes: &[u8], room: &Room, values: usize) -> Given<System> {
         self.calls.reads += 1;
         self.old.lay(&[], room.terms);
-        for kind in 0..KINDS {
-            self.lists.rows[kind].lay(&[], room.rows[kind]);
-        }
-        self.lists.dsts.lay(&[], room.dsts);
-        self.lists.rhss.lay(&[], room.rhss);
+        self.lists.lay_room(&self.none, room);
         self.values.lay(&[], values.max(7));
         let lists = self.lists.cells_mut();
         let refusal = self.library.read(bytes, self.old.cells_mut(), lists, self.values.cells_mut());
@@ -358,44 +430,6 @@ impl Ours {
             slots,
             self.values.cells_mut(),
         )
-    }
-
-    /// The same over records; nothing if the library has no such form.
-    pub fn fuse_records(
-        &mut self,
-        image: &Image,
-        slots: u64,
-        room: usize,
-        flags: usize,
-        length: Length,
-    ) -> Option<Given<Fused>> {
-        self.library.fuse_records?;
-        self.calls.fuses += 1;
-        let count = image.dsts.len().min(image.rhss.len());
-        let front: Vec<Record> = (0..count).map(|at| Record { rhs: image.rhss[at], dst: image.dsts[at] }).collect();
-        self.lay_fuse(image, room, flags, length, length.of(5, 8));
-        self.records.lay(&front, length.of(count, MAX_DEFINITIONS));
-        let refusal = self.library.fuse_records(
-            self.old.cells(),
-            self.new.cells_mut(),
-            self.lists.rows.each_mut().map(Lent::cells_mut),
-            self.records.cells_mut(),
-            self.flags.cells_mut(),
-            image.sizes,
-            slots,
-            self.values.cells_mut(),
-        )?;
-        let values = self.values.cells();
-        let linears = if refusal == 0 { (values[1] + values[2]) as usize } else { 0 };
-        if linears > count || !self.records.keeps(&front, linears) {
-            return Some(spoilt(format!("records after answer {refusal}")));
-        }
-        // The two lists of numbers were lent to nobody: they take the records' answer.
-        for (at, record) in self.records.cells()[..linears].iter().enumerate() {
-            self.lists.dsts.cells_mut()[at] = record.dst;
-            self.lists.rhss.cells_mut()[at] = record.rhs;
-        }
-        Some(self.fused(image, refusal))
     }
 
     /// What fusing left in the stores.
@@ -455,7 +489,10 @@ impl Ours {
         self.bytes.lay(&[], room);
         self.values.lay(&[], values.max(1));
         let (old, new, lists, sizes) = match source {
-            Source::Image(image) => (image.old.as_slice(), image.new.as_slice(), image.lists(), image.sizes),
+            Source::Image(image) => {
+                let definitions = definitions_of(image, self.lists.form, &mut self.front);
+                (image.old.as_slice(), image.new.as_slice(), image.lists_with(definitions), image.sizes)
+            }
             Source::Fused => (self.old.cells(), self.new.cells(), self.lists.cells(), self.after),
         };
         let refusal = self.library.write(old, new, lists, sizes, self.bytes.cells_mut(), self.values.cells_mut());
@@ -476,7 +513,10 @@ impl Ours {
         self.out.lay(&[], room);
         self.values.lay(&[], values.max(1));
         let (old, new, lists, sizes) = match source {
-            Source::Image(image) => (image.old.as_slice(), image.new.as_slice(), image.lists(), image.sizes),
+            Source::Image(image) => {
+                let definitions = definitions_of(image, self.lists.form, &mut self.front);
+                (image.old.as_slice(), image.new.as_slice(), image.lists_with(definitions), image.sizes)
+            }
             Source::Fused => (self.old.cells(), self.new.cells(), self.lists.cells(), self.after),
         };
         let (out, values) = (self.out.cells_mut(), self.values.cells_mut());
@@ -496,7 +536,8 @@ impl Ours {
     pub fn fill_back(&mut self, image: &Image, flags: &[u8], words: &[u64]) -> Given<&[u64]> {
         self.calls.fill_backs += 1;
         self.words.lay(words, words.len());
-        let refusal = self.library.fill_back(&image.old, image.lists(), image.sizes, flags, self.words.cells_mut());
+        let lists = image.lists_with(definitions_of(image, self.lists.form, &mut self.front));
+        let refusal = self.library.fill_back(&image.old, lists, image.sizes, flags, self.words.cells_mut());
         let from = if refusal == 0 { words.len() } else { 0 };
         spoilt_if(!self.words.keeps(words, from), || format!("answer {refusal} of filling back filled more"))?;
         if refusal == 0 { Ok(self.words.cells()) } else { Err(Not::Refused(refusal)) }
@@ -512,12 +553,15 @@ impl Ours {
         let lay_and_call = |ours: &mut Self, values: usize| {
             ours.lay_fuse(image, room, image.sizes.wires, Length::Longer(2), values);
             let refusal = ours.call_fuse(image, slots);
-            let lists = ours.lists.cells();
-            let rows = lists.rows.map(<[u64]>::to_vec);
+            let rows = ours.lists.cells().rows.map(<[u64]>::to_vec);
+            let definitions: Vec<(u16, u64)> = match ours.lists.cells().definitions {
+                Definitions::Numbers(dsts, rhss) => dsts.iter().copied().zip(rhss.iter().copied()).collect(),
+                Definitions::Records(records) => records.iter().map(|of| (of.dst, of.rhs)).collect(),
+            };
             let told = ours.values.cells().to_vec();
             let margins = ours.values.keeps(&[], values);
             let flags = ours.flags.cells().to_vec();
-            (refusal, told, margins, (ours.new.cells().to_vec(), rows, lists.dsts.to_vec(), lists.rhss.to_vec(), flags))
+            (refusal, told, margins, (ours.new.cells().to_vec(), rows, definitions, flags))
         };
         let (refusal, told, _, stores) = lay_and_call(self, 5);
         (0..5).find_map(|values| {
@@ -531,10 +575,10 @@ impl Ours {
 /// Fuses by the library: a third side of the type `outcome::Fuse`. A store that is not as it has to be is told as a panic is.
 pub fn fuse(system: &System, slots: usize, room: usize) -> Outcome {
     thread_local! {
-        static OURS: RefCell<Option<Ours>> = RefCell::new(Ours::linked());
+        static OURS: RefCell<Vec<Ours>> = RefCell::new(Ours::linked());
     }
     OURS.with_borrow_mut(|ours| {
-        let ours = ours.as_mut().expect("the library is linked");
+        let ours = ours.first_mut().expect("the library is linked");
         let flags = system.wires.min(MAX_WIRES);
         outcome_of(ours.fuse(&Image::of(system), slots as u64, room, flags, Length::Exact))
     })

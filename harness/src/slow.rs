@@ -8,7 +8,7 @@ use crate::{
     compare::{Totals, faults_of_all},
     house::Refusal,
     library::Library,
-    ours::{Image, Length, Not, Ours, operand_number},
+    ours::{Form, Image, Length, Not, Ours, operand_number},
     random::Random,
     rules::shift::{ROTR, ROTR32, SAR, SLL, SLL32, SLR, SRA32, SRL32, shift},
     system::{
@@ -547,7 +547,7 @@ pub struct Taken {
 
 /// Fuses an image, and gives the best seconds of some calls.
 pub fn taken(library: &Library, image: &Image, slots: u64, repeats: usize) -> Taken {
-    let mut ours = Ours::new(library);
+    let mut ours = Ours::new(library, Form::Numbers);
     let mut best = Taken { answer: 0, written: 0, seconds: f64::MAX };
     for _ in 0..repeats {
         ours.lay_fuse(image, MAX_WRITTEN, MAX_WIRES, Length::Full, 5);

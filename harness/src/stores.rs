@@ -230,13 +230,16 @@ fn note<T>(answers: &mut [u64; 16], expected: &Result<T, Refusal>) {
 /// Compares the cases of `count` seeds.
 pub fn compare(library: &Library, first: u64, count: u64) -> Totals {
     let start = Instant::now();
-    let mut ours = Ours::new(library);
+    let mut forms = Ours::forms(library);
     let mut totals = Totals::default();
     for seed in first..first + count {
         totals.cases += 1;
-        for fault in faults_of(&mut ours, &case(seed), &mut totals) {
-            totals.differences += 1;
-            println!("difference: memory seed {seed}: {fault}");
+        let case = case(seed);
+        for ours in &mut forms {
+            for fault in faults_of(ours, &case, &mut totals) {
+                totals.differences += 1;
+                println!("difference: memory seed {seed}, {:?}: {fault}", ours.form());
+            }
         }
     }
     totals.seconds = start.elapsed().as_secs_f64();
@@ -285,10 +288,8 @@ fn fault_of_fusing(
     };
     totals.fused[usize::from(answer)] += 1;
     let given = outcome_of(ours.fuse(&case.image, case.slots, case.room, case.flags, Length::Exact));
-    let by_records = ours.fuse_records(&case.image, case.slots, case.room, case.flags, Length::Exact);
-    let right = |given: &Outcome| agree(given, &by_rust) && *given == by_rules;
-    let wrong = [Some(given), by_records.map(outcome_of)].into_iter().flatten().find(|given| !right(given));
-    wrong.map(|given| format!("fusing: {}not:\n{}{:?}", dump(&given), dump(&by_rules), case.image))
+    let right = agree(&given, &by_rust) && given == by_rules;
+    (!right).then(|| format!("fusing: {}not:\n{}{:?}", dump(&given), dump(&by_rules), case.image))
 }
 
 fn words_of(case: &Case, count: usize) -> Vec<u64> {

@@ -33,14 +33,18 @@ impl Turn {
     }
 }
 
-pub struct Third {
+/// The library in one of its forms.
+struct Side {
     ours: Ours,
     image: Image,
 }
 
+/// The library in all its forms.
+pub struct Third(Vec<Side>);
+
 impl Third {
     pub fn new(library: &Library) -> Self {
-        Self { ours: Ours::new(library), image: Image::default() }
+        Self(Ours::forms(library).into_iter().map(|ours| Side { ours, image: Image::default() }).collect())
     }
 
     /// The library that is linked; nothing without the feature `ours`.
@@ -50,12 +54,28 @@ impl Third {
 
     /// The calls since this was last asked.
     pub fn take_calls(&mut self) -> Calls {
-        std::mem::take(&mut self.ours.calls)
+        let mut sum = Calls::default();
+        for side in &mut self.0 {
+            sum.add(&std::mem::take(&mut side.ours.calls));
+        }
+        sum
     }
 
     /// Everything that is wrong about the library's answers to a system, in words. The other sides' answers are those at one slot and at
     /// two, each with the greatest room; the seed says how long stores are.
     pub fn faults_of(
+        &mut self,
+        system: &System,
+        by_rules: &[Outcome; 2],
+        by_rust: &[Outcome; 2],
+        seed: u64,
+    ) -> Vec<String> {
+        self.0.iter_mut().flat_map(|side| side.faults_of(system, by_rules, by_rust, seed)).collect()
+    }
+}
+
+impl Side {
+    fn faults_of(
         &mut self,
         system: &System,
         by_rules: &[Outcome; 2],
@@ -76,7 +96,8 @@ impl Third {
             let [by_rules, by_rust] = [&by_rules[slots - 1], &by_rust[slots - 1]];
             faults.extend(self.fault_of_fusing(system, slots, by_rules, by_rust, turn));
         }
-        let told = |fault: String| format!("ours: {fault}, {:?}\n{}", turn.length, dump_lists(system));
+        let form = self.ours.form();
+        let told = |fault: String| format!("ours, {form:?}: {fault}, {:?}\n{}", turn.length, dump_lists(system));
         faults.into_iter().map(told).collect()
     }
 
@@ -173,9 +194,7 @@ impl Third {
         };
         let wires = system.wires.min(MAX_WIRES);
         let given = outcome_of(self.ours.fuse(&self.image, slots as u64, room, wires, turn.length));
-        let by_records = self.ours.fuse_records(&self.image, slots as u64, room, wires, turn.length);
         fault_of_outcome(&given, expected)
-            .or_else(|| fault_of_outcome(&outcome_of(by_records?), expected).map(|fault| format!("records: {fault}")))
     }
 
     fn fault_of_fused(
@@ -196,10 +215,6 @@ impl Third {
         fault_of_same(&given, fused)
             .or_else(|| self.fault_after(system, fused, turn))
             .or_else(|| self.fault_of_short(system, slots, fused, turn))
-            .or_else(|| {
-                let given = self.ours.fuse_records(&self.image, slots as u64, written, flags, turn.length);
-                fault_of_same(&outcome_of(given?), fused).map(|fault| format!("records: {fault}"))
-            })
     }
 
     /// The fused lists, where they stand, evaluated and written; and the words of uncommitted definitions filled back.

@@ -74,17 +74,17 @@ fn one_number_of_an_answer() {
 
 #[test]
 fn each_value_told() {
-    assert!(noticed(|left| if left.of == "fuse" && *left.refusal == 0 {
-        flip(left.numbers[6], 0)
+    assert!(noticed(|mut left| if left.of == "fuse" && *left.refusal == 0 {
+        flip(values(&mut left), 0)
     }));
-    assert!(noticed(|left| if left.of == "fuse" && *left.refusal == 0 {
-        flip(left.numbers[6], 3)
+    assert!(noticed(|mut left| if left.of == "fuse" && *left.refusal == 0 {
+        flip(values(&mut left), 3)
     }));
-    assert!(noticed(|left| if left.of == "fuse" && *left.refusal == 0 {
-        flip(left.numbers[6], 4)
+    assert!(noticed(|mut left| if left.of == "fuse" && *left.refusal == 0 {
+        flip(values(&mut left), 4)
     }));
-    assert!(noticed(|left| if left.of == "read" && *left.refusal == 0 {
-        flip(left.numbers[6], 6)
+    assert!(noticed(|mut left| if left.of == "read" && *left.refusal == 0 {
+        flip(values(&mut left), 6)
     }));
     assert!(noticed(|left| if left.of == "write" && *left.refusal == 0 {
         flip(left.numbers[0], 0)
@@ -111,8 +111,8 @@ fn refusals() {
     assert!(noticed(|left| if *left.refusal == 12 {
         *left.refusal = 6
     }));
-    assert!(noticed(|left| if left.of == "read" && *left.refusal == 12 {
-        flip(left.numbers[6], 0)
+    assert!(noticed(|mut left| if left.of == "read" && *left.refusal == 12 {
+        flip(values(&mut left), 0)
     }));
     assert!(noticed(|left| if *left.refusal == 13 {
         *left.refusal = 12
@@ -160,8 +160,8 @@ fn stores_behind_an_answer() {
     assert!(noticed(|left| if left.of == "fuse" && *left.refusal == 0 {
         last_of(left.numbers[5])
     }));
-    assert!(noticed(|left| if left.of == "fuse" && *left.refusal == 0 {
-        last_of(left.numbers[6])
+    assert!(noticed(|mut left| if left.of == "fuse" && *left.refusal == 0 {
+        last_of(values(&mut left))
     }));
     assert!(noticed(|left| if left.of == "fuse" && *left.refusal == 0 {
         last_of(left.bytes)
@@ -175,6 +175,11 @@ fn stores_behind_an_answer() {
     assert!(noticed(|left| if left.of == "evaluate" && *left.refusal == 0 {
         last_of(left.numbers[0])
     }));
+}
+
+/// The values that a call told: the last of its numbers in either form.
+fn values<'a>(left: &'a mut Answer<'_>) -> &'a mut [u64] {
+    left.numbers.last_mut().expect("every call that is spoilt here tells values")
 }
 
 fn last_of<T: Copy + std::ops::BitXorAssign + From<u8>>(cells: &mut [T]) {
@@ -210,7 +215,7 @@ fn spoilt(spoil: fn(Answer<'_>)) -> Library {
 /// Damaged files: numbers, offsets, and stores after a refusal.
 #[test]
 fn damaged_files() {
-    let differences = |spoil| damage::run_with(Some(Ours::new(&spoilt(spoil))), 0, 2).differences;
+    let differences = |spoil| damage::run_with(Ours::forms(&spoilt(spoil)), 0, 2).differences;
     assert_eq!(differences(|_| {}), 0);
     assert!(
         differences(|left| if *left.refusal == 1 {
@@ -218,8 +223,8 @@ fn damaged_files() {
         }) > 100
     );
     assert!(
-        differences(|left| if *left.refusal == 4 {
-            left.numbers[6][0] += 3
+        differences(|mut left| if *left.refusal == 4 {
+            values(&mut left)[0] += 3
         }) > 100
     );
     assert!(
@@ -316,4 +321,22 @@ fn slow_systems() {
         let system = (slow.make)();
         assert!(!house::is_full(&system), "{}", slow.name);
     }
+}
+
+/// Records: one spoilt in what was fused, in what was read, and after a refusal.
+#[cfg(feature = "records")]
+#[test]
+fn records() {
+    fn spoil(left: Answer<'_>, of: &str, refused: bool) {
+        if left.of == of && (*left.refusal != 0) == refused {
+            left.records.iter_mut().take(1).for_each(|record| record.rhs ^= 1);
+        }
+    }
+    assert!(noticed(|left| spoil(left, "fuse", false)));
+    assert!(noticed(|left| spoil(left, "fuse", true)));
+    assert!(noticed(|left| spoil(left, "read", false)));
+    assert!(noticed(|left| spoil(left, "read", true)));
+    assert!(noticed(|left| if left.of == "fuse" {
+        left.records.iter_mut().take(1).for_each(|record| record.dst ^= 1)
+    }));
 }
