@@ -1,4 +1,5 @@
-/* Calls every function of tiwzerand.h on the paper's examples and on what each has to refuse. Prints what went wrong, and how many went right. */
+/* Calls every function of tiwzerand.h on the paper's examples and on what each has to refuse; records.c calls the record forms. Prints what
+ * went wrong, and how many went right. */
 #include <stdio.h>
 #include <string.h>
 

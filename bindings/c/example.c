@@ -12,8 +12,7 @@ static uint64_t ands[TIWZERAND_AND_OPERANDS * TIWZERAND_MAX_OTHERS];
 static uint64_t imuls[TIWZERAND_IMUL_OPERANDS * TIWZERAND_MAX_OTHERS];
 static uint64_t bmuls[TIWZERAND_BMUL_OPERANDS * TIWZERAND_MAX_OTHERS];
 static uint64_t zeros[TIWZERAND_ZERO_OPERANDS * TIWZERAND_MAX_OTHERS];
-static uint16_t dsts[TIWZERAND_MAX_DEFINITIONS];
-static uint64_t rhss[TIWZERAND_MAX_DEFINITIONS];
+static tiwzerand_definition defs[TIWZERAND_MAX_DEFINITIONS];
 static uint8_t flags[TIWZERAND_MAX_WIRES];
 static uint8_t output[TIWZERAND_MAX_FILE];
 static uint64_t values[TIWZERAND_MAX_VALUES];
@@ -43,17 +42,17 @@ int main(int argc, char **argv)
         return 2;
     }
 
-    uint8_t r = tiwzerand_read(input, n, terms, LEN(terms), ands, LEN(ands), imuls, LEN(imuls), bmuls, LEN(bmuls), zeros, LEN(zeros),
-                               dsts, LEN(dsts), rhss, LEN(rhss), values, LEN(values));
+    uint8_t r = tiwzerand_read_records(input, n, terms, LEN(terms), ands, LEN(ands), imuls, LEN(imuls), bmuls, LEN(bmuls), zeros, LEN(zeros),
+                                       defs, LEN(defs), values, LEN(values));
     if (r != TIWZERAND_DONE) {
         fprintf(stderr, "at offset %llu: ", (unsigned long long)values[0]);
         return refused(argv[1], r);
     }
     size_t wires = values[0], n_ands = values[1], n_imuls = values[2], n_bmuls = values[3], n_zeros = values[4], n_linears = values[5];
 
-    r = tiwzerand_fuse(terms, LEN(terms), new_terms, LEN(new_terms), ands, LEN(ands), imuls, LEN(imuls), bmuls, LEN(bmuls), zeros,
-                       LEN(zeros), dsts, LEN(dsts), rhss, LEN(rhss), flags, LEN(flags), wires, n_ands, n_imuls, n_bmuls, n_zeros,
-                       n_linears, 2, values, LEN(values));
+    r = tiwzerand_fuse_records(terms, LEN(terms), new_terms, LEN(new_terms), ands, LEN(ands), imuls, LEN(imuls), bmuls, LEN(bmuls), zeros,
+                               LEN(zeros), defs, LEN(defs), flags, LEN(flags), wires, n_ands, n_imuls, n_bmuls, n_zeros, n_linears, 2,
+                               values, LEN(values));
     if (r != TIWZERAND_DONE)
         return refused("fusing", r);
     unsigned long long stranded = values[1], committed = values[2], written = values[3], kept = values[4];
@@ -61,9 +60,9 @@ int main(int argc, char **argv)
     printf("ok %zu %zu %zu %zu %zu %llu %llu %llu %llu\n", n_ands, n_imuls, n_bmuls, n_zeros, n_linears, committed, stranded, written,
            kept);
 
-    r = tiwzerand_write(terms, LEN(terms), new_terms, LEN(new_terms), ands, LEN(ands), imuls, LEN(imuls), bmuls, LEN(bmuls), zeros,
-                        LEN(zeros), dsts, LEN(dsts), rhss, LEN(rhss), wires, n_ands, n_imuls, n_bmuls, n_zeros, n_linears, output,
-                        sizeof output, values, LEN(values));
+    r = tiwzerand_write_records(terms, LEN(terms), new_terms, LEN(new_terms), ands, LEN(ands), imuls, LEN(imuls), bmuls, LEN(bmuls), zeros,
+                                LEN(zeros), defs, LEN(defs), wires, n_ands, n_imuls, n_bmuls, n_zeros, n_linears, output, sizeof output,
+                                values, LEN(values));
     if (r != TIWZERAND_DONE)
         return refused("writing", r);
     FILE *out = fopen(argv[2], "wb");

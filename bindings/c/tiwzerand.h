@@ -174,6 +174,53 @@ uint8_t tiwzerand_fill_back(const uint64_t *old_terms, size_t old_len, const uin
                             size_t wires, size_t n_ands, size_t n_imuls, size_t n_bmuls, size_t n_zeros, size_t n_linears,
                             const uint8_t *flags, size_t flags_len, uint64_t *assignment, size_t assignment_len);
 
+/* A definition as a record: its right side, as an operand, and its destination wire. 16 bytes, `rhs` at 0 and `dst` at 8; what stands in the
+ * other six does not count. */
+typedef struct {
+    uint64_t rhs;
+    uint16_t dst;
+} tiwzerand_definition;
+
+/* The last five functions, with one array of records in the place of `dsts` and `rhss`. Any number of records may be lent. Each answers as
+ * its number form, and leaves the same in all that was lent. */
+
+/* `tiwzerand_read` to records. */
+uint8_t tiwzerand_read_records(const uint8_t *input, size_t input_len, uint64_t *terms, size_t terms_len, uint64_t *ands, size_t ands_len,
+                               uint64_t *imuls, size_t imuls_len, uint64_t *bmuls, size_t bmuls_len, uint64_t *zeros, size_t zeros_len,
+                               tiwzerand_definition *defs, size_t defs_len, uint64_t *values, size_t values_len);
+
+/* `tiwzerand_fuse` over records. */
+uint8_t tiwzerand_fuse_records(const uint64_t *old_terms, size_t old_len, uint64_t *new_terms, size_t new_len,
+                               uint64_t *ands, size_t ands_len, uint64_t *imuls, size_t imuls_len,
+                               uint64_t *bmuls, size_t bmuls_len, uint64_t *zeros, size_t zeros_len,
+                               tiwzerand_definition *defs, size_t defs_len, uint8_t *flags, size_t flags_len,
+                               size_t wires, size_t n_ands, size_t n_imuls, size_t n_bmuls, size_t n_zeros, size_t n_linears,
+                               uint64_t slots, uint64_t *values, size_t values_len);
+
+/* `tiwzerand_write` from records. */
+uint8_t tiwzerand_write_records(const uint64_t *old_terms, size_t old_len, const uint64_t *new_terms, size_t new_len,
+                                const uint64_t *ands, size_t ands_len, const uint64_t *imuls, size_t imuls_len,
+                                const uint64_t *bmuls, size_t bmuls_len, const uint64_t *zeros, size_t zeros_len,
+                                const tiwzerand_definition *defs, size_t defs_len,
+                                size_t wires, size_t n_ands, size_t n_imuls, size_t n_bmuls, size_t n_zeros, size_t n_linears,
+                                uint8_t *out, size_t out_len, uint64_t *values, size_t values_len);
+
+/* `tiwzerand_evaluate` over records. */
+uint8_t tiwzerand_evaluate_records(const uint64_t *old_terms, size_t old_len, const uint64_t *new_terms, size_t new_len,
+                                   const uint64_t *ands, size_t ands_len, const uint64_t *imuls, size_t imuls_len,
+                                   const uint64_t *bmuls, size_t bmuls_len, const uint64_t *zeros, size_t zeros_len,
+                                   const tiwzerand_definition *defs, size_t defs_len,
+                                   size_t wires, size_t n_ands, size_t n_imuls, size_t n_bmuls, size_t n_zeros, size_t n_linears,
+                                   const uint64_t *assignment, size_t assignment_len, uint64_t *out, size_t out_len,
+                                   uint64_t *values, size_t values_len);
+
+/* `tiwzerand_fill_back` over records. */
+uint8_t tiwzerand_fill_back_records(const uint64_t *old_terms, size_t old_len, const uint64_t *ands, size_t ands_len,
+                                    const uint64_t *imuls, size_t imuls_len, const uint64_t *bmuls, size_t bmuls_len,
+                                    const uint64_t *zeros, size_t zeros_len, const tiwzerand_definition *defs, size_t defs_len,
+                                    size_t wires, size_t n_ands, size_t n_imuls, size_t n_bmuls, size_t n_zeros, size_t n_linears,
+                                    const uint8_t *flags, size_t flags_len, uint64_t *assignment, size_t assignment_len);
+
 #ifdef __cplusplus
 }
 #endif

@@ -39,7 +39,7 @@ fileOf slots = cond (eqb slots 0) Usage (File slots)
 abbrev pub committedOf : ℕ → Asked
 committedOf slots = cond (eqb slots 0) Usage (Committed slots)
 
--- "slots 1 or 2 by an argument (default 2)"
+-- two slots where no word names them
 abbrev pub oneWord : List ℕ → Asked
 oneWord w = cond (sameText w COMMITTED) (Committed 2) (fileOf (slotsOf w))
 

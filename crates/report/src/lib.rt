@@ -1,8 +1,7 @@
 // A house file in, and what the programs print out: the line of `fusereport`, and the fused file with the committed wires.
 ghost use mathlib.Core.Path.{_≡_};
 ghost use Prim.Native.Nat.{_≤_};
-ghost use lib.ListN.{length, take};
-ghost use lib.Seq.{sets};
+ghost use lib.ListN.{length};
 ghost use Rattle.fusion.specs.Left.{lent};
 ghost use Rattle.report.specs.Text.{refusedText, refusedAtText, okText, Puts, Enough};
 ghost use Rattle.report.specs.Committed.{Lines};
@@ -35,6 +34,8 @@ pub enum FuseFile {
     Refused { number: u8 },
     Unread { number: u8, at: usize },
 }
+
+// A text is counted first, by putting it where all of it but a byte is dropped: one that does not fit is not begun.
 
 // `refused N` and a newline.
 pub fn refused_line(number: u8, out: &mut [u8]) -> Written

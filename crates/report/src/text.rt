@@ -1,9 +1,7 @@
 // Bytes put at a place of a lent store, and the place after them. A byte past its end is dropped, so the same functions count a text.
 ghost use mathlib.Core.Path.{_≡_};
-ghost use mathlib.Core.List.{_∷_, []};
-ghost use Prim.Native.Nat.{_+_, _*_, _^_, _≤_, _<_};
+ghost use Prim.Native.Nat.{_+_, _^_, _≤_, _<_};
 ghost use lib.ListN.{length, set};
-ghost use lib.Seq.{sets};
 ghost use Rattle.report.specs.Decimal.{decimal};
 ghost use Rattle.report.specs.Text.{PutsAt, refusedText, refusedAtText, valueText, valuesText, okText, linesText};
 ghost use Rattle.report.specs.Committed.{flagText, committedFrom};

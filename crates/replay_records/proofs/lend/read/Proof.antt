@@ -1,6 +1,5 @@
 -- `lend::read` meets its contract: a walk of its MIR, by hand, with one call. The array is lent to `read_records` and comes back, as its last records; the slices go to it for good. Assumes nothing.
-use native.Mathlib.Omega.{arith}
-use Rattle.records.proofs.Kit.{_≡_, refl, ℕ, _≤_, [], _∷_, List, length, URA, fullShare, named, erased, tyArray, Val, SProp, ent, emp, via, fst∗, id⊢, Lft, Share, GName, Fml, ftrue, fat, flft, flent, Memory, Routine, Heap, WpFn, Tables, Calls, Loops, Atoms, Fun, fact, givenOf, tables, tablesOf, Given, Item, ‵, _⊛_, ⋆, _$_, _∵_, !, qed, by, move, keep, drop, use1, split, join, fsplit, fjoin, suffices, frame, done, raw, some, later, cut, use2, use3, pick, await, feqL, look, init, forget, stop, hop, fld, from, load, of-opd, and-then, no-more, assigns, returns, enter, alloc1, alloc0, params1, pass1, pass0, free1, free0, addr, land, agg, whole, sub, look-in, WpFn-mono, FmC, fmOf, owns, Is, shows, u64, u8, RefT, sliceVal, slice-vals, mut-slice-tells, shr-slice-tells, MutSlice, ShrSlice, Room, finally, Held, owned, nothing, peeks, heard, Vals, onEntry, Meets, tripleOf, entered, cited, says, Stays, walkOf, Walks, ends-at, walked, walk-meets, gave-slice, stay-dropped, goes-gave-slice, goes-dropped, yes, plain, shrSliceOf, lft-new, lft-end, Array, Contract, Triple, calls-at, ensured, lasts}
+use Rattle.records.proofs.Kit.{_≡_, refl, ℕ, [], _∷_, List, length, URA, fullShare, named, erased, tyArray, Val, SProp, ent, emp, via, fst∗, id⊢, Lft, Share, GName, Fml, ftrue, fat, flft, flent, Memory, Routine, Heap, WpFn, Tables, Calls, Loops, Atoms, Fun, fact, givenOf, tables, tablesOf, Given, Item, ‵, _⊛_, ⋆, _$_, _∵_, !, qed, by, move, keep, drop, use1, split, join, fsplit, fjoin, suffices, frame, done, raw, some, later, cut, use2, use3, pick, await, feqL, look, init, forget, stop, hop, fld, from, load, of-opd, and-then, no-more, assigns, returns, enter, alloc1, alloc0, params1, pass1, pass0, free1, free0, addr, land, agg, whole, sub, look-in, WpFn-mono, FmC, fmOf, owns, Is, shows, u64, u8, RefT, sliceVal, slice-vals, mut-slice-tells, shr-slice-tells, MutSlice, ShrSlice, Room, finally, Held, owned, nothing, peeks, heard, Vals, onEntry, Meets, tripleOf, entered, cited, says, Stays, walkOf, Walks, ends-at, walked, walk-meets, gave-slice, stay-dropped, goes-gave-slice, goes-dropped, yes, plain, shrSliceOf, lft-new, lft-end, Array, Contract, Triple, calls-at, ensured, lasts}
 use Rattle.records.proofs.Arrays.{InMemory, array-in, lends-mut, mut-back, big}
 use Rattle.replay_records.proofs.Lent.{R, vy, fits, room, typed-in, field-is, array-out}
 use mir.Val.{vstruct, ofList}
@@ -92,14 +91,11 @@ module _ {M : Type 1} (𝓤 : URA M) (H : Heap 𝓤) (A : Atoms 𝓤) (W : Given
     abbrev to : Callee 𝓤 H A mem run .Ghost
     to = (((κ₀, (κ₁, (κ₂, (κ₃, (κ₄, (κ₅, (ν ∷ [], tt))))))), (q₀, (q₁, (q₂, (q₃, (q₄, (q₅, (fullShare, tt))))))), tt, (x₁, (x₂, (x₃, (x₄, (x₅, (x₆, (record { ptr = (b, 0); name = δ; now = ys }, tt))))))), (v₁ ∷ [], (v₂ ∷ [], (v₃ ∷ [], (v₄ ∷ [], (v₅ ∷ [], (v₆ ∷ [], (sliceVal (b, 0) 1024 ∷ [], tt)))))))), tt)
 
-    few : length ys ≤ 1024
-    few = omega (arith, gy .1 .0 .1)
-
     abbrev Ask : List (Item 𝓤)
     Ask = (‵ (flft κ₀ q₀) ⊛ ‵ (flft κ₁ q₁) ⊛ ‵ (flft κ₂ q₂) ⊛ ‵ (flft κ₃ q₃) ⊛ ‵ (flft κ₄ q₄) ⊛ ‵ (flft κ₅ q₅) ⊛ ‵ (flft (ν ∷ []) fullShare) ⊛ ‵ ftrue) ∷ ‵ Own₁ ∷ ‵ Own₂ ∷ ‵ Own₃ ∷ ‵ Own₄ ∷ ‵ Own₅ ∷ ‵ Own₆ ∷ ‵ (MutSlice erased (ν ∷ []) R .own (record { ptr = (b, 0); name = δ; now = ys }) (sliceVal (b, 0) 1024 ∷ [])) ∷ []
 
     asked : ent 𝓤 (⋆ 𝓤 H A Ask) (Callee 𝓤 H A mem run .pre to)
-    asked = qed W Ask ∵ says ! few $ frame ! $ nothing ! $ move ! (7 ∷ 0 ∷ []) $ fjoin ! $ move ! (6 ∷ 0 ∷ []) $ fjoin ! $ move ! (5 ∷ 0 ∷ []) $ fjoin ! $ move ! (4 ∷ 0 ∷ []) $ fjoin ! $ move ! (3 ∷ 0 ∷ []) $ fjoin ! $ move ! (2 ∷ 0 ∷ []) $ fjoin ! $ move ! (1 ∷ 0 ∷ []) $ fjoin ! $ done !
+    asked = qed W Ask ∵ nothing ! $ move ! (8 ∷ 0 ∷ []) $ fjoin ! $ move ! (7 ∷ 0 ∷ []) $ fjoin ! $ move ! (6 ∷ 0 ∷ []) $ fjoin ! $ move ! (5 ∷ 0 ∷ []) $ fjoin ! $ move ! (4 ∷ 0 ∷ []) $ fjoin ! $ move ! (3 ∷ 0 ∷ []) $ fjoin ! $ move ! (2 ∷ 0 ∷ []) $ fjoin ! $ move ! (1 ∷ 0 ∷ []) $ join ! $ frame ! $ done !
 
   module _ (r : Loaded) (u : Val) (w₂ : List ℕ) (w₃ : List ℕ) (w₄ : List ℕ) (w₅ : List ℕ) (w₆ : List ℕ) where
     abbrev Had : List (Item 𝓤)

@@ -1,6 +1,5 @@
 -- `lend::write` meets its contract: a walk of its MIR, by hand, with one call. The array is lent to `write_records` and comes back; the slices go to it for good. Assumes nothing.
-use native.Mathlib.Omega.{arith}
-use Rattle.records.proofs.Kit.{_≡_, refl, ℕ, _≤_, [], _∷_, List, length, URA, fullShare, named, erased, tyArray, Val, SProp, ent, emp, via, fst∗, id⊢, Lft, Share, GName, Fml, ftrue, froom, flft, flent, Memory, Routine, Heap, WpFn, Tables, Calls, Loops, Atoms, Fun, fact, givenOf, tables, tablesOf, Given, Item, ‵, _⊛_, ⋆, _$_, _∵_, !, qed, by, move, keep, drop, use1, split, join, fsplit, fjoin, suffices, frame, done, raw, some, later, cut, use2, pick, await, feqL, look, init, forget, stop, hop, fld, from, load, of-opd, and-then, no-more, assigns, returns, enter, alloc1, alloc0, params1, pass1, pass0, free1, free0, addr, land, agg, whole, sub, look-in, WpFn-mono, FmC, fmOf, owns, Is, shows, u64, u8, RefT, sliceVal, slice-vals, mut-slice-tells, shr-slice-tells, MutSlice, ShrSlice, Room, finally, owned, nothing, peeks, heard, Vals, onEntry, Meets, tripleOf, entered, cited, says, Stays, walkOf, Walks, ends-at, walked, walk-meets, gave-slice, stay-dropped, goes-gave-slice, goes-dropped, yes, plain, shrSliceOf, lft-new, lft-end, lent-back, Array, Contract, Triple, calls-at, ensured, lasts}
+use Rattle.records.proofs.Kit.{_≡_, refl, ℕ, [], _∷_, List, length, URA, fullShare, named, erased, tyArray, Val, SProp, ent, emp, via, fst∗, id⊢, Lft, Share, GName, Fml, ftrue, froom, flft, flent, Memory, Routine, Heap, WpFn, Tables, Calls, Loops, Atoms, Fun, fact, givenOf, tables, tablesOf, Given, Item, ‵, _⊛_, ⋆, _$_, _∵_, !, qed, by, move, keep, drop, use1, split, join, fsplit, fjoin, suffices, frame, done, raw, some, later, cut, use2, pick, await, feqL, look, init, forget, stop, hop, fld, from, load, of-opd, and-then, no-more, assigns, returns, enter, alloc1, alloc0, params1, pass1, pass0, free1, free0, addr, land, agg, whole, sub, look-in, WpFn-mono, FmC, fmOf, owns, Is, shows, u64, u8, RefT, sliceVal, slice-vals, mut-slice-tells, shr-slice-tells, MutSlice, ShrSlice, Room, finally, owned, nothing, peeks, heard, Vals, onEntry, Meets, tripleOf, entered, cited, says, Stays, walkOf, Walks, ends-at, walked, walk-meets, gave-slice, stay-dropped, goes-gave-slice, goes-dropped, yes, plain, shrSliceOf, lft-new, lft-end, lent-back, Array, Contract, Triple, calls-at, ensured, lasts}
 use Rattle.records.proofs.Arrays.{InMemory, array-in, array-room, lends-shr, big}
 use Rattle.replay_records.proofs.Lent.{R, vy, fits, room, typed-in}
 use denote.Builtin.{ArrayOf}
@@ -96,14 +95,11 @@ module _ {M : Type 1} (𝓤 : URA M) (H : Heap 𝓤) (A : Atoms 𝓤) (W : Given
     abbrev to : Callee 𝓤 H A mem run .Ghost
     to = (((κ₀, (κ₁, (κ₂, (κ₃, (κ₄, (ν ∷ [], (κ₅, tt))))))), (q₀, (q₁, (q₂, (q₃, (q₄, (fullShare, (q₅, tt))))))), tt, (x₁, (x₂, (x₃, (x₄, (x₅, (x₆, (record { ptr = (b, 0); name = δ; now = ys }, (z, (x₉, tt))))))))), (v₁ ∷ [], (v₂ ∷ [], (v₃ ∷ [], (v₄ ∷ [], (v₅ ∷ [], (v₆ ∷ [], (sliceVal (b, 0) 1024 ∷ [], (vz ∷ [], (v₉ ∷ [], tt)))))))))), tt)
 
-    few : length ys ≤ 1024
-    few = omega (arith, gy .1 .0 .1)
-
     abbrev Ask : List (Item 𝓤)
     Ask = (‵ (flft κ₀ q₀) ⊛ ‵ (flft κ₁ q₁) ⊛ ‵ (flft κ₂ q₂) ⊛ ‵ (flft κ₃ q₃) ⊛ ‵ (flft κ₄ q₄) ⊛ ‵ (flft (ν ∷ []) fullShare) ⊛ ‵ (flft κ₅ q₅) ⊛ ‵ ftrue) ∷ ‵ Own₁ ∷ ‵ Own₂ ∷ ‵ Own₃ ∷ ‵ Own₄ ∷ ‵ Own₅ ∷ ‵ Own₆ ∷ ‵ (ShrSlice erased (ν ∷ []) R .own (record { ptr = (b, 0); name = δ; now = ys }) (sliceVal (b, 0) 1024 ∷ [])) ∷ ‵ Own₉ ∷ []
 
     asked : ent 𝓤 (⋆ 𝓤 H A Ask) (Callee 𝓤 H A mem run .pre to)
-    asked = qed W Ask ∵ says ! few $ frame ! $ nothing ! $ move ! (8 ∷ 0 ∷ []) $ fjoin ! $ owned ! Z.the-row (Is Z.the-row) (LL.makes Z.the-type Z′.the-plain 𝓤 H A) z _ gz $ fjoin ! $ move ! (7 ∷ 0 ∷ []) $ fjoin ! $ move ! (6 ∷ 0 ∷ []) $ fjoin ! $ move ! (5 ∷ 0 ∷ []) $ fjoin ! $ move ! (4 ∷ 0 ∷ []) $ fjoin ! $ move ! (3 ∷ 0 ∷ []) $ fjoin ! $ move ! (2 ∷ 0 ∷ []) $ fjoin ! $ move ! (1 ∷ 0 ∷ []) $ fjoin ! $ done !
+    asked = qed W Ask ∵ nothing ! $ move ! (9 ∷ 0 ∷ []) $ fjoin ! $ owned ! Z.the-row (Is Z.the-row) (LL.makes Z.the-type Z′.the-plain 𝓤 H A) z _ gz $ fjoin ! $ move ! (8 ∷ 0 ∷ []) $ fjoin ! $ move ! (7 ∷ 0 ∷ []) $ fjoin ! $ move ! (6 ∷ 0 ∷ []) $ fjoin ! $ move ! (5 ∷ 0 ∷ []) $ fjoin ! $ move ! (4 ∷ 0 ∷ []) $ fjoin ! $ move ! (3 ∷ 0 ∷ []) $ fjoin ! $ move ! (2 ∷ 0 ∷ []) $ fjoin ! $ move ! (1 ∷ 0 ∷ []) $ join ! $ frame ! $ done !
 
   module _ (r : Written) (u : Val) (w₉ : List ℕ) where
     abbrev Had : List (Item 𝓤)
