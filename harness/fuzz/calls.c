@@ -15,6 +15,11 @@ uint8_t rattle_fuse(slice *, slice *, slice *, slice *, slice *, slice *, slice 
 uint8_t rattle_write(slice *, slice *, slice *, slice *, slice *, slice *, slice *, slice *, SIZES, slice *, slice *);
 uint8_t rattle_evaluate(slice *, slice *, slice *, slice *, slice *, slice *, slice *, slice *, SIZES, slice *, slice *, slice *);
 uint8_t rattle_fill_back(slice *, slice *, slice *, slice *, slice *, slice *, slice *, SIZES, slice *, slice *);
+uint8_t rattle_read_records(slice *, slice *, slice *, slice *, slice *, slice *, slice *, slice *);
+uint8_t rattle_fuse_records(slice *, slice *, slice *, slice *, slice *, slice *, slice *, slice *, SIZES, uint64_t, slice *);
+uint8_t rattle_write_records(slice *, slice *, slice *, slice *, slice *, slice *, slice *, SIZES, slice *, slice *);
+uint8_t rattle_evaluate_records(slice *, slice *, slice *, slice *, slice *, slice *, slice *, SIZES, slice *, slice *, slice *);
+uint8_t rattle_fill_back_records(slice *, slice *, slice *, slice *, slice *, slice *, SIZES, slice *, slice *);
 
 uint8_t tiwzerand_read(const uint8_t *input, size_t input_len, uint64_t *terms, size_t terms_len, uint64_t *ands, size_t ands_len,
                        uint64_t *imuls, size_t imuls_len, uint64_t *bmuls, size_t bmuls_len, uint64_t *zeros, size_t zeros_len,
@@ -57,4 +62,46 @@ uint8_t tiwzerand_fill_back(const uint64_t *old, size_t old_len, const uint64_t 
 {
     return rattle_fill_back(AT(old), AT(ands), AT(imuls), AT(bmuls), AT(zeros), AT(dsts), AT(rhss), OF_SIZES, AT(flags),
                             AT(assignment));
+}
+
+uint8_t tiwzerand_read_records(const uint8_t *input, size_t input_len, uint64_t *terms, size_t terms_len, uint64_t *ands, size_t ands_len,
+                               uint64_t *imuls, size_t imuls_len, uint64_t *bmuls, size_t bmuls_len, uint64_t *zeros, size_t zeros_len,
+                               tiwzerand_definition *defs, size_t defs_len, uint64_t *values, size_t values_len)
+{
+    return rattle_read_records(AT(input), AT(terms), AT(ands), AT(imuls), AT(bmuls), AT(zeros), AT(defs), AT(values));
+}
+
+uint8_t tiwzerand_fuse_records(const uint64_t *old, size_t old_len, uint64_t *new, size_t new_len, uint64_t *ands, size_t ands_len,
+                               uint64_t *imuls, size_t imuls_len, uint64_t *bmuls, size_t bmuls_len, uint64_t *zeros, size_t zeros_len,
+                               tiwzerand_definition *defs, size_t defs_len, uint8_t *flags, size_t flags_len, SIZES, uint64_t slots,
+                               uint64_t *values, size_t values_len)
+{
+    return rattle_fuse_records(AT(old), AT(new), AT(ands), AT(imuls), AT(bmuls), AT(zeros), AT(defs), AT(flags), OF_SIZES, slots,
+                               AT(values));
+}
+
+uint8_t tiwzerand_write_records(const uint64_t *old, size_t old_len, const uint64_t *new, size_t new_len, const uint64_t *ands,
+                                size_t ands_len, const uint64_t *imuls, size_t imuls_len, const uint64_t *bmuls, size_t bmuls_len,
+                                const uint64_t *zeros, size_t zeros_len, const tiwzerand_definition *defs, size_t defs_len, SIZES,
+                                uint8_t *out, size_t out_len, uint64_t *values, size_t values_len)
+{
+    return rattle_write_records(AT(old), AT(new), AT(ands), AT(imuls), AT(bmuls), AT(zeros), AT(defs), OF_SIZES, AT(out), AT(values));
+}
+
+uint8_t tiwzerand_evaluate_records(const uint64_t *old, size_t old_len, const uint64_t *new, size_t new_len, const uint64_t *ands,
+                                   size_t ands_len, const uint64_t *imuls, size_t imuls_len, const uint64_t *bmuls, size_t bmuls_len,
+                                   const uint64_t *zeros, size_t zeros_len, const tiwzerand_definition *defs, size_t defs_len, SIZES,
+                                   const uint64_t *assignment, size_t assignment_len, uint64_t *out, size_t out_len, uint64_t *values,
+                                   size_t values_len)
+{
+    return rattle_evaluate_records(AT(old), AT(new), AT(ands), AT(imuls), AT(bmuls), AT(zeros), AT(defs), OF_SIZES, AT(assignment),
+                                   AT(out), AT(values));
+}
+
+uint8_t tiwzerand_fill_back_records(const uint64_t *old, size_t old_len, const uint64_t *ands, size_t ands_len, const uint64_t *imuls,
+                                    size_t imuls_len, const uint64_t *bmuls, size_t bmuls_len, const uint64_t *zeros, size_t zeros_len,
+                                    const tiwzerand_definition *defs, size_t defs_len, SIZES, const uint8_t *flags, size_t flags_len,
+                                    uint64_t *assignment, size_t assignment_len)
+{
+    return rattle_fill_back_records(AT(old), AT(ands), AT(imuls), AT(bmuls), AT(zeros), AT(defs), OF_SIZES, AT(flags), AT(assignment));
 }

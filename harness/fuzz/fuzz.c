@@ -3,7 +3,8 @@
  * is fused is written, read again and evaluated, and overwritten words are filled back. Every store is a heap block of just its length.
  *
  * It aborts where a store is changed by a refusal or filled past its answer, where a second call answers otherwise, where a written file is
- * not read back as the same lists, where an operand changes its value, and where filling back does not give the words back.
+ * not read back as the same lists, where an operand changes its value, where filling back does not give the words back, and where the
+ * functions over records answer otherwise.
  */
 #include "tiwzerand.h"
 #include <stdio.h>
@@ -176,6 +177,28 @@ static uint64_t next(void)
         (s)->len[ZEROS], (s)->dsts, (s)->dsts_len, (s)->list[RHSS], (s)->len[RHSS]
 #define SIZES_OF(s) (s)->wires, (s)->count[ANDS], (s)->count[IMULS], (s)->count[BMULS], (s)->count[ZEROS], (s)->count[RHSS]
 
+#define ROWS_OF(s)                                                                                                                        \
+    (s)->list[ANDS], (s)->len[ANDS], (s)->list[IMULS], (s)->len[IMULS], (s)->list[BMULS], (s)->len[BMULS], (s)->list[ZEROS], (s)->len[ZEROS]
+
+/* A system's definitions as records, in a heap block of just their number. */
+static tiwzerand_definition *records_of(const system_t *s)
+{
+    tiwzerand_definition *defs = blank(s->dsts_len, sizeof(tiwzerand_definition));
+    for (size_t i = 0; i < s->dsts_len; i++) {
+        defs[i].rhs = s->list[RHSS][i];
+        defs[i].dst = s->dsts[i];
+    }
+    return defs;
+}
+
+static int same_records(const tiwzerand_definition *defs, const system_t *s)
+{
+    for (size_t i = 0; i < s->dsts_len; i++)
+        if (defs[i].rhs != s->list[RHSS][i] || defs[i].dst != s->dsts[i])
+            return 0;
+    return 1;
+}
+
 static uint8_t read_into(const uint8_t *data, size_t size, words_t terms, system_t *s, uint64_t *values, size_t values_len)
 {
     return tiwzerand_read(data, size, terms.at, terms.len, LISTS_OF(s), values, values_len);
@@ -188,6 +211,23 @@ typedef struct {
     system_t system;
     words_t terms;
 } read_t;
+
+/* Reading to records gives the same. */
+static void check_read_records(const uint8_t *data, size_t size, const system_t *s, words_t terms, const uint64_t *values)
+{
+    system_t to = blank_system(s->len, 0);
+    words_t to_terms = blank_words(terms.len);
+    tiwzerand_definition *defs = blank(s->dsts_len, sizeof(tiwzerand_definition));
+    uint64_t *told = blank(7, sizeof(uint64_t));
+    CHECK(tiwzerand_read_records(data, size, to_terms.at, to_terms.len, ROWS_OF(&to), defs, s->dsts_len, told, 7) == 0);
+    CHECK(memcmp(told, values, 7 * sizeof(uint64_t)) == 0 && same_words(to_terms, terms) && same_records(defs, s));
+    for (int k = ANDS; k <= ZEROS; k++)
+        CHECK(memcmp(to.list[k], s->list[k], s->len[k] * sizeof(uint64_t)) == 0);
+    free(told);
+    free(defs);
+    free(to_terms.at);
+    free_system(to);
+}
 
 static read_t read_file(const uint8_t *data, size_t size)
 {
@@ -240,6 +280,7 @@ static read_t read_file(const uint8_t *data, size_t size)
         CHECK(is_blank(full_terms.at + read.terms.len, (8192 - read.terms.len) * sizeof(uint64_t)));
         CHECK(term_count(s) == read.terms.len);
         free(again);
+        check_read_records(data, size, s, read.terms, values);
     }
     free(values);
     free(full_terms.at);
@@ -391,6 +432,56 @@ static void refused(const system_t *s, words_t old, size_t room, size_t flags_le
     free_fused(f);
 }
 
+/* Fusing, writing, evaluating and filling back over records give what they give over numbers. */
+static void check_records(const system_t *s, words_t old, words_t solved, const fused_t *f, uint64_t slots)
+{
+    system_t after = copy_system(s);
+    tiwzerand_definition *defs = records_of(s), *before = records_of(s);
+    words_t new = blank_words(f->new.len);
+    uint8_t *flags = blank(s->wires, 1);
+    uint64_t *told = blank(5, sizeof(uint64_t));
+    CHECK(tiwzerand_fuse_records(old.at, old.len, new.at, new.len, ROWS_OF(&after), defs, s->dsts_len, flags, s->wires, SIZES_OF(s),
+                                 slots, told, 5) == 0);
+    CHECK(memcmp(told, f->values, 5 * sizeof(uint64_t)) == 0 && same_words(new, f->new) && memcmp(flags, f->flags, s->wires) == 0);
+    CHECK(same_records(defs, &f->system));
+    for (int k = ANDS; k <= ZEROS; k++)
+        CHECK(memcmp(after.list[k], f->system.list[k], s->len[k] * sizeof(uint64_t)) == 0);
+    after.count[RHSS] = f->system.count[RHSS];
+
+    uint8_t *file = blank(TIWZERAND_MAX_FILE, 1), *by_records = blank(TIWZERAND_MAX_FILE, 1);
+    const system_t *fused = &f->system;
+    uint64_t length = 0, length_by_records = 0;
+    uint8_t answer =
+        tiwzerand_write(old.at, old.len, new.at, new.len, LISTS_OF(fused), SIZES_OF(fused), file, TIWZERAND_MAX_FILE, &length, 1);
+    CHECK(tiwzerand_write_records(old.at, old.len, new.at, new.len, ROWS_OF(&after), defs, s->dsts_len, SIZES_OF(fused), by_records,
+                                  TIWZERAND_MAX_FILE, &length_by_records, 1) == answer);
+    CHECK(length == length_by_records && memcmp(file, by_records, TIWZERAND_MAX_FILE) == 0);
+    free(file);
+    free(by_records);
+
+    words_t values = values_of(fused, old, new, solved), out = blank_words(operand_count(fused));
+    CHECK(tiwzerand_evaluate_records(old.at, old.len, new.at, new.len, ROWS_OF(&after), defs, s->dsts_len, SIZES_OF(fused), solved.at,
+                                     solved.len, out.at, out.len, &length, 1) == 0);
+    CHECK(length == out.len && same_words(out, values));
+    free(out.at);
+    free(values.at);
+
+    words_t words = copy_words(solved);
+    for (size_t i = 0; i < s->dsts_len; i++)
+        if (!flags[s->dsts[i]])
+            words.at[s->dsts[i]] = next();
+    CHECK(tiwzerand_fill_back_records(old.at, old.len, ROWS_OF(s), before, s->dsts_len, SIZES_OF(s), flags, s->wires, words.at,
+                                      words.len) == 0);
+    CHECK(same_words(words, solved));
+    free(words.at);
+    free(told);
+    free(flags);
+    free(new.at);
+    free(before);
+    free(defs);
+    free_system(after);
+}
+
 static void check_fused(const system_t *s, words_t old, words_t solved, const uint8_t *defined, fused_t *f, uint64_t slots)
 {
     /* The same again, in a store of just the terms that are written; and not in one that is shorter. */
@@ -416,6 +507,7 @@ static void check_fused(const system_t *s, words_t old, words_t solved, const ui
             words.at[wire] = next();
     CHECK(fill_back(s, old, again.flags, words) == 0 && same_words(words, solved));
     free(words.at);
+    check_records(s, old, solved, &again, slots);
     free_fused(again);
 }
 
