@@ -1,12 +1,14 @@
 -- The digits of a number: one more, what they say, how many. Assumes nothing.
-use mathlib.Core.Path.{_≡_, refl, sym, ap, _∙_}
+use mathlib.Core.Path.{_≡_, refl, sym, ap, _∙_, subst}
 use Prim.Native.Nat.{ℕ, zero, suc, _+_, _*_, _-_, _/_, _%_, _^_, _≤_, _<_}
 use native.Mathlib.Omega.{arith}
 use mathlib.Core.Bool.{Bool, true, false}
 use mathlib.Core.List.{List, [], _∷_, _++_}
 use lib.Dec.{ltb}
-use lib.ListN.{length, length-append}
+use lib.ListN.{length, getD, length-append}
 use borrow.Author.Tests.{lt-ltb, le-ltb, ltb-true, ltb-false}
+use Rattle.lower.specs.Lists.{All, done, more}
+use Rattle.lower.proofs.Laws.{all-both}
 use Rattle.report.specs.Decimal.{digit, decimalBy, decimal, valueFrom, valueOf}
 
 -- ---- one more digit
@@ -92,3 +94,31 @@ decimal-length n h = decimal-few 19 n (omega arith)
 
 pub decimal-some : (n : ℕ) → 0 < length (decimal n)
 decimal-some n = one-or-more n (λ l. rw (decimal-one n l) (omega arith)) (λ m. rw (decimal-more n m, length-append) (omega arith))
+
+-- ---- that they are digits, and that the first is not 0 but where it stands alone
+
+abbrev pub IsDigit : ℕ → Type 0
+IsDigit d = (48 ≤ d) × (d < 58)
+
+by-digits : (k n : ℕ) → n ≤ k → All IsDigit (decimalBy k n)
+by-digits zero n h = subst (All IsDigit) (sym (by-none n)) (more (omega arith, omega arith) done)
+by-digits (suc k) n h =
+    one-or-more n (λ l. subst (All IsDigit) (sym (by-one (suc k) n l)) (more (omega arith, omega arith) done))
+    (λ m. subst (All IsDigit) (sym (by-more k n m)) (all-both IsDigit (by-digits k (n / 10) (omega arith)) (more (omega arith, omega arith) done)))
+
+pub decimal-digits : (n : ℕ) → All IsDigit (decimal n)
+unfolding decimal
+decimal-digits n = by-digits n n (omega arith)
+
+front-append : (xs ys : List ℕ) → 0 < length xs → getD (xs ++ ys) 0 0 ≡ getD xs 0 0
+front-append [] ys h = absurd (omega arith)
+front-append (x ∷ xs) ys h = refl
+
+front-more : (j n : ℕ) → 0 < n → n ≤ j → 48 < getD (decimal n) 0 0
+front-more zero n p h = absurd (omega arith)
+front-more (suc j) n p h =
+    one-or-more n (λ l. rw (decimal-one n l) (omega arith))
+    (λ m. rw (decimal-more n m, front-append (decimal (n / 10)) (digit (n % 10) ∷ []) (decimal-some (n / 10))) (front-more j (n / 10) (omega arith) (omega arith)))
+
+pub decimal-front : (n : ℕ) → 0 < n → 48 < getD (decimal n) 0 0
+decimal-front n h = front-more n n h (omega arith)
