@@ -1,12 +1,13 @@
 -- Laws of the walk, one step at a time. Assumes nothing.
-use mathlib.Core.Path.{_≡_, refl, ap}
+use mathlib.Core.Path.{_≡_, refl, sym, ap, _∙_}
 use Prim.Native.Nat.{ℕ, zero, suc, _+_, _-_, _≤_, _<_}
 use mathlib.Core.List.{List, [], _∷_, map}
 use mathlib.Core.Bool.{Bool, true, false, cond}
 use native.Mathlib.Omega.{arith}
 use lib.ListN.{length, getD, set, drop}
 use lib.Seq.{drop-length}
-use borrow.Author.Tests.{eq-eqb, ne-eqb}
+use lib.Dec.{eqb}
+use borrow.Author.Tests.{eq-eqb, ne-eqb, eqb-true, eqb-false}
 use Rattle.operand.specs.Numbers.{Operand, termOf, operandAt, termsAt, operandOf}
 use Rattle.lower.proofs.Firsts.{drop-step}
 use Rattle.legraph.specs.Walked.{Walked, circled, enter, over, opened, closed, visit, walkFrom, unmarked, rhsIn}
@@ -61,6 +62,15 @@ module _ (g : Walked → ℕ → Walked) (w : Walked) (n : ℕ) where
         pub enter-done : (getD (w .marks) d 0 ≡ 1 → ⊥) → w ≡ enter g w n
         unfolding enter
         enter-done h = rw (e, live, ne-eqb _ _ met, ne-eqb _ _ h)
+
+      -- by the mark, where it is no 0: an open one is a circle
+      pub enter-met : (b : Bool) → (getD (w .marks) d 0 ≡ 0 → ⊥) → b ≡ eqb (getD (w .marks) d 0) 1
+          → record { marks = w .marks; order = w .order; left = w .left; circle = b } ≡ enter g w n
+      enter-met b met h = go b (sym h)
+        where
+          go : (b : Bool) → eqb (getD (w .marks) d 0) 1 ≡ b → record { marks = w .marks; order = w .order; left = w .left; circle = b } ≡ enter g w n
+          go true q = enter-open met (eqb-true _ _ q)
+          go false q = ap (λ (c : Bool). record { marks = w .marks; order = w .order; left = w .left; circle = c }) (sym live) ∙ enter-done met (eqb-false _ _ q)
 
 pub closed-circle : (w : Walked) (d : ℕ) → w .circle ≡ true → w ≡ closed w d
 unfolding closed

@@ -97,6 +97,36 @@ fn enter<'a>(
     c
 }
 
+// A definition of the list. It is entered as a term's is, by a body of its own: a call, which hands on every slice, is made for each
+// definition that is opened, none for a term.
+fn start<'a>(
+    old: &'a [u64],
+    new: &'a [u64],
+    rhss: &[u64],
+    table: &[u16],
+    marks: &mut [u8],
+    order: &mut [u16],
+    c: Walk,
+    d: LinDefId,
+) -> Walk
+    requires { ⌜ Sound (now old) (now new) (now rhss) (now table) (length (now marks)) ⌝ }
+    requires { ⌜ There (now old) (now new) (now rhss) (length (now marks)) (d .0) ⌝ }
+    ensures { λ r. ⌜ ((f : ℕ) → unmarked (now (marks .entry)) ≤ f → walked (now (marks .exit)) (now (order .exit)) r ≡ enter (visit f (rhsIn (now (old .entry)) (now (new .entry)) (now (rhss .entry))) (now (table .entry))) (walked (now (marks .entry)) (now (order .entry)) c) (suc (d .0))) ⌝ }
+    ensures { λ r. ⌜ unmarked (now (marks .exit)) ≤ unmarked (now (marks .entry)) ⌝ }
+{
+    if c.circle {
+        return c;
+    }
+    let m = marks[d.0 as usize];
+    if m == 0 {
+        return visit(old, new, rhss, table, &mut *marks, &mut *order, c, d);
+    }
+    Walk {
+        left: c.left,
+        circle: m == 1,
+    }
+}
+
 // All definitions, the first `count` of `rhss`. Where there is no circle they stand in `order` from `left` on, each before those that it
 // names.
 pub fn walk<'a>(
@@ -118,8 +148,8 @@ pub fn walk<'a>(
     };
     let mut k = 0;
     while k < count {
-        let node = Node::LinDef(LinDefId(k as u16));
-        cur = enter(old, new, rhss, table, &mut *marks, &mut *order, cur, node);
+        let d = LinDefId(k as u16);
+        cur = start(old, new, rhss, table, &mut *marks, &mut *order, cur, d);
         k += 1;
     }
     cur

@@ -21,10 +21,10 @@ loop-holds c = let e : c .before .before .before .before .before .before .args .
 cast-t13 : tie.Need-cast-t13 Inv-loop μ-loop
 cast-t13 c = omega (arith, c .before .before .before .before .before .before .before .before .pre .1 .0, c .loop-test .taken)
 
-enter-requires : tie.Need-enter-requires Inv-loop μ-loop
-enter-requires c κs = let s = c .before .before .before .before .before .before .before .before .before .before in let l = c .before .before .before .loop in (
+start-requires : tie.Need-start-requires Inv-loop μ-loop
+start-requires c κs = let s = c .before .before .before .before .before .before .before .before .before .before in let l = c .before .before .before .loop in (
   subst (λ (n : ℕ). Sound (s .args .old .now) (s .args .new .now) (s .args .rhss .now) (s .args .table .now) n) (sym (l .inv .1)) (s .pre .0),
-  λ d e. subst (λ (n : ℕ). There (s .args .old .now) (s .args .new .now) (s .args .rhss .now) n d) (sym (l .inv .1)) (s .pre .1 .1 d (omega (arith, e, c .before .before .loop-test .taken))),
+  subst (λ (n : ℕ). There (s .args .old .now) (s .args .new .now) (s .args .rhss .now) n (l .k)) (sym (l .inv .1)) (s .pre .1 .1 (l .k) (c .before .before .loop-test .taken)),
 )
 
 add-k : tie.Need-add-k Inv-loop μ-loop
@@ -34,7 +34,7 @@ loop-less : tie.Need-loop-less Inv-loop μ-loop
 loop-less c = search needs
 
 loop-again : tie.Need-loop-again Inv-loop μ-loop
-loop-again c = let s = c .before .before .before .before .before .before .before .before .before .before .before .before .before .before .before in let l = c .before .before .before .before .before .before .before .before .loop in let k = c .before .before .before .before .enter in (
+loop-again c = let s = c .before .before .before .before .before .before .before .before .before .before .before .before .before .before .before in let l = c .before .before .before .before .before .before .before .before .loop in let k = c .before .before .before .before .start in (
   omega (arith, c .before .before .before .before .before .before .before .loop-test .taken),
   k .kept .1 .1 .1 .1 .0 ∙ l .inv .1,
   k .kept .1 .1 .1 .1 .1 .0 ∙ l .inv .2,
@@ -63,7 +63,7 @@ walk-spec =
     μ-loop
     loop-holds
     cast-t13
-    enter-requires
+    start-requires
     add-k
     loop-less
     loop-again
