@@ -19,7 +19,6 @@ use Rattle.lower.proofs.Explains.{proper-right}
 use Rattle.legraph.specs.declared.Walk.{Walk}
 use Rattle.legraph.specs.Tables.{numbered}
 use Rattle.legraph.specs.Walked.{Walked, walkOf, orderOf, rhsIn, There, Sound}
-use Rattle.legraph.proofs.Listing.{tableOf}
 use Rattle.legraph.proofs.Theorem.{count, small, rhs-same, table-made, all-there, sound, Ends, ends}
 use Rattle.commit_set.specs.Orders.{InOrder}
 use Rattle.commit_set.specs.Answer.{slotsFault, decisionFault}
@@ -63,21 +62,24 @@ module _ (slots : ℕ) (z : Sizes) (s : Stores) where
     unfolding decisionFault
     slots-few = slots-right slots (else-first (slotsFault slots) _ (else-second (memoryFault 8192 z s) _ f))
 
-    -- what the calls ask
-    pub table-there : (z .linears ≤ length (s .dsts)) × (z .linears < 65536) × All (λ (d : ℕ). d < length (replicate {A = ℕ} 4096 0)) (take (z .linears) (s .dsts))
-    table-there =
-        let y = checked z s (memory-places 8192 z s memory-none) in (
-          y .dsts-in,
-          omega (arith, memory-definitions 8192 z s memory-none),
-          subst (λ (m : ℕ). All (λ (d : ℕ). d < m) (take (z .linears) (s .dsts))) (sym (length-replicate {A = ℕ} 4096 0)) (dsts-small z s y (memory-wires 8192 z s memory-none)),
-        )
+    abbrev made : List ℕ
+    made = numbered 0 (take (z .linears) (s .dsts)) (replicate 4096 0)
 
-    pub walk-there : (t : List ℕ) → t ≡ numbered 0 (take (z .linears) (s .dsts)) (replicate 4096 0)
-        → Sound (s .old) (s .new) (s .rhss) t 1024 × ((z .linears < 65536) × ((d : ℕ) → d < z .linears → There (s .old) (s .new) (s .rhss) 1024 d))
-    walk-there t q = (
-      subst (λ (l : List ℕ). Sound (s .old) (s .new) (s .rhss) l 1024) (sym (q ∙ table-made z s memory-none)) (sound z s memory-none once),
-      (omega (arith, memory-definitions 8192 z s memory-none), all-there z s memory-none),
-    )
+    -- what the walk asks
+    pub walk-asks : ((z .linears ≤ length (s .dsts)) × (z .linears < 65536) × All (λ (d : ℕ). d < length (replicate {A = ℕ} 4096 0)) (take (z .linears) (s .dsts)))
+        × (Sound (s .old) (s .new) (s .rhss) made 1024 × ((d : ℕ) → d < z .linears → There (s .old) (s .new) (s .rhss) 1024 d))
+    walk-asks =
+        let y = checked z s (memory-places 8192 z s memory-none) in (
+          (
+            y .dsts-in,
+            omega (arith, memory-definitions 8192 z s memory-none),
+            subst (λ (m : ℕ). All (λ (d : ℕ). d < m) (take (z .linears) (s .dsts))) (sym (length-replicate {A = ℕ} 4096 0)) (dsts-small z s y (memory-wires 8192 z s memory-none)),
+          ),
+          (
+            subst (λ (l : List ℕ). Sound (s .old) (s .new) (s .rhss) l 1024) (sym (table-made z s memory-none)) (sound z s memory-none once),
+            all-there z s memory-none,
+          ),
+        )
 
     -- what the walk has come to
     pub record Outcome (c : Walk) (order : List ℕ) : Type 0 where
@@ -86,20 +88,18 @@ module _ (slots : ℕ) (z : Sizes) (s : Stores) where
       pub ordered : c .circle ≡ false → InOrder (systemOf z s) (λ d. false) (drop (c .left) order)
       pub only : c .circle ≡ false → (d : ℕ) → List·Memᴰ d (drop (c .left) order) → d < z .linears
 
-    abbrev walkBy : List ℕ → Walked
-    walkBy t = walkOf (rhsIn (s .old) (s .new) (s .rhss)) t (z .linears) (replicate 1024 0) (replicate 1024 0)
+    abbrev walked : Walked
+    walked = walkOf (rhsIn (s .old) (s .new) (s .rhss)) made (z .linears) (replicate 1024 0) (replicate 1024 0)
 
-    pub outcome : (t : List ℕ) (c : Walk) (order : List ℕ) → t ≡ numbered 0 (take (z .linears) (s .dsts)) (replicate 4096 0)
-        → c .left ≡ walkBy t .left → c .circle ≡ walkBy t .circle → order ≡ walkBy t .order → Outcome c order
-    outcome t c order q l b o =
+    pub outcome : (c : Walk) (order : List ℕ) → c .left ≡ walked .left → c .circle ≡ walked .circle → order ≡ walked .order → Outcome c order
+    outcome c order l b o =
         let e = memory-none in
-        let made : t ≡ tableOf 4096 (systemOf z s) = q ∙ table-made z s e in
-        let r : Ends z s e once (walkBy t) = subst (λ (x : List ℕ). Ends z s e once (walkBy x)) (sym made) (ends z s e once (replicate 1024 0) (omega (arith, length-replicate {A = ℕ} 1024 0))) in
-        let same : drop (c .left) order ≡ orderOf (walkBy t) = rw (l, o) in
+        let r : Ends z s e once walked = subst (λ (x : List ℕ). Ends z s e once (walkOf (rhsIn (s .old) (s .new) (s .rhss)) x (z .linears) (replicate 1024 0) (replicate 1024 0))) (sym (table-made z s e)) (ends z s e once (replicate 1024 0) (omega (arith, length-replicate {A = ℕ} 1024 0))) in
+        let same : drop (c .left) order ≡ orderOf walked = rw (l, o) in
         record {
           circle = λ h. r .circle (sym b ∙ h);
           none = λ h. r .no-circle (sym b ∙ h);
           ordered = λ h. subst (InOrder (systemOf z s) (λ d. false)) (sym same)
-              (in-order (systemOf z s) 4096 once (small z s e) (rhsIn (s .old) (s .new) (s .rhss)) (rhs-same z s e) (orderOf (walkBy t)) (r .posted (sym b ∙ h)) (r .whole (sym b ∙ h)) (r .only (sym b ∙ h)));
+              (in-order (systemOf z s) 4096 once (small z s e) (rhsIn (s .old) (s .new) (s .rhss)) (rhs-same z s e) (orderOf walked) (r .posted (sym b ∙ h)) (r .whole (sym b ∙ h)) (r .only (sym b ∙ h)));
           only = λ h d m. omega (arith, r .only (sym b ∙ h) d (subst (List·Memᴰ d) same m), count z s e);
         }

@@ -4,6 +4,7 @@ ghost use Prim.Native.Nat.{ℕ, _<_, _≤_};
 ghost use mathlib.Core.Bool.{false};
 ghost use mathlib.Core.List.{List·Memᴰ};
 ghost use lib.ListN.{length, take, drop, replicate};
+ghost use Rattle.lower.specs.Lists.{All};
 ghost use Rattle.lower.specs.Accepted.{MAX_TERMS, Once};
 ghost use Rattle.lower.specs.Stores.{stores, systemOf};
 ghost use Rattle.lower.specs.Faults.{memoryFault};
@@ -75,8 +76,30 @@ fn walk<'a>(
     legraph::post_order::walk(old, new, rhss, count, table, &mut marks, &mut *order)
 }
 
-// The definitions in an order, each after all its uses.
-fn decide_in_order<'a>(
+// The definition of each wire, and the walk over the first `count` definitions.
+pub fn order_definitions<'a>(
+    old: &'a [u64],
+    new: &'a [u64],
+    dsts: &[u16],
+    rhss: &[u64],
+    count: usize,
+    table: &mut [u16],
+    order: &mut [u16],
+) -> Walk
+    requires { ⌜ (count ≤ length (now dsts)) × (count < 65536) × All (λ (d : ℕ). d < length (now table)) (take count (now dsts)) ⌝ }
+    requires { ⌜ Sound (now old) (now new) (now rhss) (numbered 0 (take count (now dsts)) (now table)) 1024 ⌝ }
+    requires { ⌜ ((d : ℕ) → d < count → There (now old) (now new) (now rhss) 1024 d) ⌝ }
+    ensures { λ r. ⌜ now (table .exit) ≡ numbered 0 (take count (now (dsts .entry))) (now (table .entry)) ⌝ }
+    ensures { λ r. ⌜ r .left ≡ walkOf (rhsIn (now (old .entry)) (now (new .entry)) (now (rhss .entry))) (numbered 0 (take count (now (dsts .entry))) (now (table .entry))) count (replicate 1024 0) (now (order .entry)) .left ⌝ }
+    ensures { λ r. ⌜ r .circle ≡ walkOf (rhsIn (now (old .entry)) (now (new .entry)) (now (rhss .entry))) (numbered 0 (take count (now (dsts .entry))) (now (table .entry))) count (replicate 1024 0) (now (order .entry)) .circle ⌝ }
+    ensures { λ r. ⌜ now (order .exit) ≡ walkOf (rhsIn (now (old .entry)) (now (new .entry)) (now (rhss .entry))) (numbered 0 (take count (now (dsts .entry))) (now (table .entry))) count (replicate 1024 0) (now (order .entry)) .order ⌝ }
+{
+    legraph::add_lin_defs(dsts, count, &mut *table);
+    walk(old, new, rhss, count, &*table, &mut *order)
+}
+
+// Decides the definitions that stand in `order` from `left` on, each after all its uses.
+pub fn decide_in_order<'a>(
     old: &'a [u64],
     new: &'a [u64],
     ands: &[u64],
@@ -147,9 +170,8 @@ fn run_decide_commit_set<'a>(
 {
     let n = z.linears;
     let mut table = [0u16; lower::MAX_WIRES];
-    legraph::add_lin_defs(dsts, n, &mut table);
     let mut order = [0u16; lower::MAX_DEFINITIONS];
-    let walked = walk(old, new, rhss, n, &table, &mut order);
+    let walked = order_definitions(old, new, dsts, rhss, n, &mut table, &mut order);
     if walked.circle {
         return CIRCLE;
     }
@@ -187,9 +209,8 @@ fn slots_fault(slots: u64) -> u8
     SLOTS
 }
 
-// Which definitions of a system commit, with so many slots a term: 0, and one number a definition in `decisions`; or a refusal, and
-// `decisions` as it was.
-pub fn decide<'a>(
+// All that is checked before circles: the first fault's number, or 0.
+pub fn check<'a>(
     old: &'a [u64],
     new: &'a [u64],
     ands: &[u64],
@@ -200,9 +221,8 @@ pub fn decide<'a>(
     rhss: &[u64],
     z: Sizes,
     slots: u64,
-    decisions: &mut [u64],
 ) -> u8
-    ensures { λ r. ⌜ Decides slots z (stores (now (old .entry)) (now (new .entry)) (now (ands .entry)) (now (imuls .entry)) (now (bmuls .entry)) (now (zeros .entry)) (now (dsts .entry)) (now (rhss .entry))) (now (decisions .entry)) (now (decisions .exit)) r ⌝ }
+    ensures { λ r. ⌜ r ≡ decisionFault slots z (stores (now (old .entry)) (now (new .entry)) (now (ands .entry)) (now (imuls .entry)) (now (bmuls .entry)) (now (zeros .entry)) (now (dsts .entry)) (now (rhss .entry))) ⌝ }
 {
     let fault = lower::check(
         old,
@@ -223,9 +243,29 @@ pub fn decide<'a>(
     if wrong != 0 {
         return wrong;
     }
-    let improper = lower::check_definitions(old, new, ands, imuls, bmuls, zeros, dsts, rhss, z);
-    if improper != 0 {
-        return improper;
+    lower::check_definitions(old, new, ands, imuls, bmuls, zeros, dsts, rhss, z)
+}
+
+// Which definitions of a system commit, with so many slots a term: 0, and one number a definition in `decisions`; or a refusal, and
+// `decisions` as it was.
+pub fn decide<'a>(
+    old: &'a [u64],
+    new: &'a [u64],
+    ands: &[u64],
+    imuls: &[u64],
+    bmuls: &[u64],
+    zeros: &[u64],
+    dsts: &[u16],
+    rhss: &[u64],
+    z: Sizes,
+    slots: u64,
+    decisions: &mut [u64],
+) -> u8
+    ensures { λ r. ⌜ Decides slots z (stores (now (old .entry)) (now (new .entry)) (now (ands .entry)) (now (imuls .entry)) (now (bmuls .entry)) (now (zeros .entry)) (now (dsts .entry)) (now (rhss .entry))) (now (decisions .entry)) (now (decisions .exit)) r ⌝ }
+{
+    let fault = check(old, new, ands, imuls, bmuls, zeros, dsts, rhss, z, slots);
+    if fault != 0 {
+        return fault;
     }
     run_decide_commit_set(
         old,
