@@ -1,21 +1,20 @@
 -- What the walk leaves, over a system with no circle: an order of all definitions, each before those that it names. Assumes nothing.
-use mathlib.Core.Path.{_≡_, sym, ap, _∙_, subst}
+use mathlib.Core.Path.{_≡_, sym, subst}
 use Prim.Native.Nat.{ℕ, zero, suc, _≤_, _<_}
 use native.Mathlib.Omega.{arith}
 use mathlib.Core.Bool.{false}
 use mathlib.Core.List.{List, [], _∷_, List·Memᴰ, List·Memᴰ·not-nil}
-use lib.ListN.{length, take, drop, replicate, length-replicate}
+use lib.ListN.{length, take, drop, replicate}
 use Rattle.operand.specs.Numbers.{Operand}
 use Rattle.lower.specs.declared.Sizes.{Sizes}
-use Rattle.lower.specs.Lists.{All}
 use Rattle.lower.specs.Model.{System}
 use Rattle.lower.specs.Accepted.{Once, NoCircle}
 use Rattle.lower.specs.Stores.{Stores, systemOf}
 use Rattle.lower.specs.Faults.{memoryFault}
-use Rattle.lower.proofs.Checks.{checked, dsts-small, memory-places, memory-wires, memory-definitions}
+use Rattle.legraph.specs.Orders.{Posted}
 use Rattle.legraph.specs.Tables.{numbered}
-use Rattle.legraph.specs.Walked.{Walked, walkFrom, walkOf, orderOf, rhsIn, There, Sound}
-use Rattle.legraph.proofs.Theorem.{count, table-made, all-there, sound, Ends, ends}
+use Rattle.legraph.specs.Walked.{Walked, walkFrom, walkOf, orderOf, rhsIn}
+use Rattle.legraph.proofs.Theorem.{count, table-made, Ends, ends}
 use Rattle.patch.proofs.Parts.{Which, is-true, is-false, which}
 use Rattle.reach.specs.Steps.{Order}
 
@@ -37,56 +36,37 @@ module _ (z : Sizes) (s : Stores) (e : memoryFault 8192 z s ≡ 0) where
   abbrev made : List ℕ
   made = numbered 0 (take (z .linears) (s .dsts)) (replicate 4096 0)
 
-  -- ---- what the calls ask
+  module _ (once : Once (p .linears)) (no-circle : NoCircle p) (begun : List ℕ) (long : 1024 ≤ length begun) where
+    abbrev walked : Walked
+    walked = walkOf (rhsIn (s .old) (s .new) (s .rhss)) made (z .linears) (replicate 1024 0) begun
 
-  pub table-there : (t : List ℕ) → t ≡ replicate 4096 0 → (z .linears ≤ length (s .dsts)) × (z .linears < 65536) × All (λ (d : ℕ). d < length t) (take (z .linears) (s .dsts))
-  table-there t q =
-      let y = checked z s (memory-places 8192 z s e) in (
-        y .dsts-in,
-        omega (arith, memory-definitions 8192 z s e),
-        subst (λ (m : ℕ). All (λ (d : ℕ). d < m) (take (z .linears) (s .dsts))) (sym (ap length q ∙ length-replicate {A = ℕ} 4096 0)) (dsts-small z s y (memory-wires 8192 z s e)),
-      )
+    ended : Ends z s e once walked
+    ended = subst (λ (x : List ℕ). Ends z s e once (walkOf (rhsIn (s .old) (s .new) (s .rhss)) x (z .linears) (replicate 1024 0) begun)) (sym (table-made z s e)) (ends z s e once begun long)
 
-  module _ (once : Once (p .linears)) (t : List ℕ) (q : t ≡ made) where
-    pub walk-there : Sound (s .old) (s .new) (s .rhss) t 1024 × ((z .linears < 65536) × ((d : ℕ) → d < z .linears → There (s .old) (s .new) (s .rhss) 1024 d))
-    walk-there = (
-      subst (λ (l : List ℕ). Sound (s .old) (s .new) (s .rhss) l 1024) (sym (q ∙ table-made z s e)) (sound z s e once),
-      (omega (arith, memory-definitions 8192 z s e), all-there z s e),
-    )
+    straight : walked .circle ≡ false
+    straight = go (which (walked .circle))
+      where
+        go : Which (walked .circle) → walked .circle ≡ false
+        go (is-true h) = let x = ended .circle h in absurd (no-circle (x .0) (x .1))
+        go (is-false h) = h
 
-    -- ---- what the walk has come to
+    ordered : Order (rhsIn (s .old) (s .new) (s .rhss)) made (z .linears) (orderOf walked)
+    ordered = record {
+      posted = subst (λ (t : List ℕ). Posted (rhsIn (s .old) (s .new) (s .rhss)) t (orderOf walked)) (sym (table-made z s e)) (ended .posted straight);
+      only = λ d m. omega (arith, ended .only straight d m, count z s e);
+      whole = λ d l. ended .whole straight d (omega (arith, l, count z s e));
+    }
 
-    module _ (no-circle : NoCircle p) (begun : List ℕ) (long : 1024 ≤ length begun) where
-      abbrev walked : Walked
-      walked = walkOf (rhsIn (s .old) (s .new) (s .rhss)) t (z .linears) (replicate 1024 0) begun
+    within : walked .left ≤ length (walked .order)
+    within = go (z .linears) (walk-none (rhsIn (s .old) (s .new) (s .rhss)) made (replicate 1024 0) begun) (λ d l. ordered .whole d l)
+      where
+        go : (n : ℕ) → walkOf (rhsIn (s .old) (s .new) (s .rhss)) made 0 (replicate 1024 0) begun .left ≤ length (walkOf (rhsIn (s .old) (s .new) (s .rhss)) made 0 (replicate 1024 0) begun .order)
+            → ((d : ℕ) → d < n → List·Memᴰ d (orderOf (walkOf (rhsIn (s .old) (s .new) (s .rhss)) made n (replicate 1024 0) begun)))
+            → walkOf (rhsIn (s .old) (s .new) (s .rhss)) made n (replicate 1024 0) begun .left ≤ length (walkOf (rhsIn (s .old) (s .new) (s .rhss)) made n (replicate 1024 0) begun .order)
+        go zero h f = h
+        go (suc n) h f = drop-under _ _ 0 (f 0 (omega arith))
 
-      ended : Ends z s e once walked
-      ended = subst (λ (x : List ℕ). Ends z s e once (walkOf (rhsIn (s .old) (s .new) (s .rhss)) x (z .linears) (replicate 1024 0) begun)) (sym (q ∙ table-made z s e)) (ends z s e once begun long)
-
-      straight : walked .circle ≡ false
-      straight = go (which (walked .circle))
-        where
-          go : Which (walked .circle) → walked .circle ≡ false
-          go (is-true h) = let x = ended .circle h in absurd (no-circle (x .0) (x .1))
-          go (is-false h) = h
-
-      ordered : Order (rhsIn (s .old) (s .new) (s .rhss)) made (z .linears) (orderOf walked)
-      ordered = record {
-        posted = rw (table-made z s e) (ended .posted straight);
-        only = λ d m. omega (arith, ended .only straight d m, count z s e);
-        whole = λ d l. ended .whole straight d (omega (arith, l, count z s e));
-      }
-
-      within : walked .left ≤ length (walked .order)
-      within = go (z .linears) (walk-none (rhsIn (s .old) (s .new) (s .rhss)) t (replicate 1024 0) begun) (λ d l. ordered .whole d l)
-        where
-          go : (n : ℕ) → walkOf (rhsIn (s .old) (s .new) (s .rhss)) t 0 (replicate 1024 0) begun .left ≤ length (walkOf (rhsIn (s .old) (s .new) (s .rhss)) t 0 (replicate 1024 0) begun .order)
-              → ((d : ℕ) → d < n → List·Memᴰ d (orderOf (walkOf (rhsIn (s .old) (s .new) (s .rhss)) t n (replicate 1024 0) begun)))
-              → walkOf (rhsIn (s .old) (s .new) (s .rhss)) t n (replicate 1024 0) begun .left ≤ length (walkOf (rhsIn (s .old) (s .new) (s .rhss)) t n (replicate 1024 0) begun .order)
-          go zero h f = h
-          go (suc n) h f = drop-under _ _ 0 (f 0 (omega arith))
-
-      -- THE THEOREM. The walk's order is what the masks are made by.
-      pub walk-orders : (left : ℕ) (order : List ℕ) → left ≡ walked .left → order ≡ walked .order
-          → Order (rhsIn (s .old) (s .new) (s .rhss)) made (z .linears) (drop left order) × (left ≤ length order)
-      walk-orders left order l o = (rw (l, o) ordered, rw (l, o) within)
+    -- THE THEOREM. The walk's order is what the masks are made by.
+    pub walk-orders : (left : ℕ) (order : List ℕ) → left ≡ walked .left → order ≡ walked .order
+        → Order (rhsIn (s .old) (s .new) (s .rhss)) made (z .linears) (drop left order) × (left ≤ length order)
+    walk-orders left order l o = (rw (l, o) ordered, rw (l, o) within)

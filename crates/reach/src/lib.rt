@@ -3,11 +3,11 @@ ghost use mathlib.Core.Path.{_≡_};
 ghost use Prim.Native.Nat.{ℕ, _*_, _<_, _≤_};
 ghost use lib.ListN.{length, take, drop, replicate};
 ghost use Rattle.lower.specs.Lists.{All};
-ghost use Rattle.lower.specs.Accepted.{MAX_TERMS, Once, Single, NoCircle};
+ghost use Rattle.lower.specs.Accepted.{MAX_TERMS, Once, Single};
 ghost use Rattle.lower.specs.Stores.{stores, systemOf, rowHandles};
 ghost use Rattle.lower.specs.Faults.{memoryFault};
 ghost use Rattle.legraph.specs.Tables.{numbered};
-ghost use Rattle.legraph.specs.Walked.{walkOf, rhsIn, There, Sound};
+ghost use Rattle.legraph.specs.Walked.{rhsIn};
 ghost use Rattle.commit_set.specs.Numbers.{stateAt};
 ghost use Rattle.patch.specs.Patch.{commitSet};
 ghost use Rattle.reach.specs.Alive.{AliveIn};
@@ -119,26 +119,7 @@ pub fn reach_masks<'a>(
     gather(dsts, n, &masks, &mut *out);
 }
 
-// The walk, with marks of its own: how much of the order is left.
-fn walk<'a>(
-    old: &'a [u64],
-    new: &'a [u64],
-    rhss: &[u64],
-    count: usize,
-    table: &[u16],
-    order: &mut [u16],
-) -> usize
-    requires { ⌜ Sound (now old) (now new) (now rhss) (now table) 1024 ⌝ }
-    requires { ⌜ (count < 65536) × ((d : ℕ) → d < count → There (now old) (now new) (now rhss) 1024 d) ⌝ }
-    ensures { λ r. ⌜ r ≡ walkOf (rhsIn (now (old .entry)) (now (new .entry)) (now (rhss .entry))) (now (table .entry)) count (replicate 1024 0) (now (order .entry)) .left ⌝ }
-    ensures { λ r. ⌜ now (order .exit) ≡ walkOf (rhsIn (now (old .entry)) (now (new .entry)) (now (rhss .entry))) (now (table .entry)) count (replicate 1024 0) (now (order .entry)) .order ⌝ }
-{
-    let mut marks = [0u8; lower::MAX_DEFINITIONS];
-    let walked = legraph::post_order::walk(old, new, rhss, count, table, &mut marks, &mut *order);
-    walked.left
-}
-
-// The definition of each wire, and both masks of each definition. There is no circle, so the walk ends with an order.
+// Both masks of each definition, by an order of all definitions, each before those that it names.
 pub fn masks<'a>(
     old: &'a [u64],
     new: &'a [u64],
@@ -150,25 +131,20 @@ pub fn masks<'a>(
     rhss: &[u64],
     z: Sizes,
     decisions: &[u64],
-    table: &mut [u16],
+    order: &[u16],
+    left: usize,
     alive: &mut [u64],
     reach: &mut [u64],
 )
     requires { ⌜ memoryFault MAX_TERMS z (stores (now old) (now new) (now ands) (now imuls) (now bmuls) (now zeros) (now dsts) (now rhss)) ≡ 0 ⌝ }
     requires { ⌜ Once (systemOf z (stores (now old) (now new) (now ands) (now imuls) (now bmuls) (now zeros) (now dsts) (now rhss)) .linears) ⌝ }
     requires { ⌜ Single (systemOf z (stores (now old) (now new) (now ands) (now imuls) (now bmuls) (now zeros) (now dsts) (now rhss))) ⌝ }
-    requires { ⌜ NoCircle (systemOf z (stores (now old) (now new) (now ands) (now imuls) (now bmuls) (now zeros) (now dsts) (now rhss))) ⌝ }
-    requires { ⌜ now table ≡ replicate 4096 0 ⌝ }
-    requires { ⌜ (z .linears ≤ length (now decisions)) × (z .linears ≤ length (now alive)) × (z .linears ≤ length (now reach)) ⌝ }
-    ensures { λ r. ⌜ now (table .exit) ≡ numbered 0 (take (z .linears) (now (dsts .entry))) (replicate 4096 0) ⌝ }
+    requires { ⌜ Order (rhsIn (now old) (now new) (now rhss)) (numbered 0 (take (z .linears) (now dsts)) (replicate 4096 0)) (z .linears) (drop left (now order)) ⌝ }
+    requires { ⌜ (left ≤ length (now order)) × (z .linears ≤ length (now decisions)) × (z .linears ≤ length (now alive)) × (z .linears ≤ length (now reach)) ⌝ }
     ensures { λ r. ⌜ AliveIn (systemOf z (stores (now (old .entry)) (now (new .entry)) (now (ands .entry)) (now (imuls .entry)) (now (bmuls .entry)) (now (zeros .entry)) (now (dsts .entry)) (now (rhss .entry)))) (commitSet (systemOf z (stores (now (old .entry)) (now (new .entry)) (now (ands .entry)) (now (imuls .entry)) (now (bmuls .entry)) (now (zeros .entry)) (now (dsts .entry)) (now (rhss .entry)))) (stateAt (now (decisions .entry)))) (z .linears) (now (dsts .entry)) (now (alive .exit)) ⌝ }
     ensures { λ r. ⌜ ReachIn (systemOf z (stores (now (old .entry)) (now (new .entry)) (now (ands .entry)) (now (imuls .entry)) (now (bmuls .entry)) (now (zeros .entry)) (now (dsts .entry)) (now (rhss .entry)))) (commitSet (systemOf z (stores (now (old .entry)) (now (new .entry)) (now (ands .entry)) (now (imuls .entry)) (now (bmuls .entry)) (now (zeros .entry)) (now (dsts .entry)) (now (rhss .entry)))) (stateAt (now (decisions .entry)))) (z .linears) (now (dsts .entry)) (now (reach .exit)) ⌝ }
     ensures { λ r. ⌜ Filled (z .linears) (now (alive .entry)) (now (alive .exit)) × Filled (z .linears) (now (reach .entry)) (now (reach .exit)) ⌝ }
 {
-    let n = z.linears;
-    legraph::add_lin_defs(dsts, n, &mut *table);
-    let mut order = [0u16; lower::MAX_DEFINITIONS];
-    let left = walk(old, new, rhss, n, &*table, &mut order);
     alive_masks(
         old,
         new,
@@ -180,7 +156,7 @@ pub fn masks<'a>(
         rhss,
         z,
         decisions,
-        &order,
+        order,
         left,
         &mut *alive,
     );
@@ -195,7 +171,7 @@ pub fn masks<'a>(
         rhss,
         z,
         decisions,
-        &order,
+        order,
         left,
         &mut *reach,
     );
