@@ -4,19 +4,20 @@ use Prim.Native.Nat.{ℕ, _+_, _*_, _≤_, _<_}
 use native.Mathlib.Omega.{arith}
 use mathlib.Core.Bool.{Bool, false}
 use mathlib.Core.List.{List, [], map}
-use lib.ListN.{length, take, replicate, length-map}
+use lib.ListN.{length, take, drop, replicate, length-map}
 use lib.Seq.{sets, length-sets}
 use Rattle.operand.specs.Numbers.{termNumber}
 use Rattle.lower.specs.declared.Sizes.{Sizes}
 use Rattle.lower.specs.Lists.{All, sumOf}
 use Rattle.lower.specs.Model.{System}
-use Rattle.lower.specs.Accepted.{Accepted, Once, Single, NoCircle}
+use Rattle.lower.specs.Accepted.{Accepted, Once, Single}
 use Rattle.lower.specs.Stores.{Stores, systemOf, rowHandles, Placed}
 use Rattle.lower.specs.Faults.{lengthOf, memoryFault}
 use Rattle.lower.proofs.Laws.{all-left, all-right}
 use Rattle.lower.proofs.Firsts.{part-all}
 use Rattle.lower.proofs.Checks.{checked, placed, memory-places, memory-definitions}
 use Rattle.legraph.specs.Tables.{numbered}
+use Rattle.legraph.specs.Walked.{rhsIn}
 use Rattle.legraph.proofs.Listing.{tableOf, Defined, found-at}
 use Rattle.legraph.proofs.Theorem.{count, small, table-made}
 use Rattle.commit_set.proofs.Answers.{memory-none, slots-few}
@@ -28,9 +29,10 @@ use Rattle.patch.specs.Spelling.{Source, source, spell, Looks, Lookable}
 use Rattle.patch.proofs.Lookables.{lookable, looks-room}
 use Rattle.patch.specs.Building.{Built, built, builtBy, buildAll, operandsIn, Rooted, Buildable}
 use Rattle.reach.specs.Alive.{AliveIn}
+use Rattle.reach.specs.Steps.{Order}
 use Rattle.reach.proofs.Theorem.{ands-part, imuls-part, bmuls-part, zeros-part}
 use Rattle.fusion.specs.Left.{numbers}
-use Rattle.fusion.specs.Steps.{Ready, chosen, Rebuilt}
+use Rattle.fusion.specs.Steps.{Ready, Ordered, chosen, Rebuilt}
 use Rattle.fusion.proofs.System.{take-front}
 use Rattle.fusion.proofs.Rebuilding.{all-rooted, all-readable, rebuilds-few, source-within, rebuilding-fits, rebuilding-over}
 use Rattle.fusion.proofs.Closing.{numbers-length}
@@ -55,11 +57,12 @@ module _ (z : Sizes) (s : Stores) (decisions : List ℕ) (r : Ready z s decision
   there = placed z s (checked z s (memory-places 8192 z s memory))
 
   -- alive and reach are the lengths of the stores of masks
-  pub masks-asks : (t : List ℕ) (alive reach : ℕ) → t ≡ replicate 4096 0 → alive ≡ 10240 → reach ≡ 1024
-      → (memoryFault 8192 z s ≡ 0) × (Once (p .linears) × (Single p × (NoCircle p × ((t ≡ replicate 4096 0) × ((z .linears ≤ length decisions) × (z .linears ≤ alive) × (z .linears ≤ reach))))))
-  masks-asks t alive reach q a b =
+  pub masks-asks : (table order : List ℕ) (left alive reach : ℕ) → Ordered z s table order left → alive ≡ 10240 → reach ≡ 1024
+      → (memoryFault 8192 z s ≡ 0)
+      × (Once (p .linears) × (Single p × (Order (rhsIn (s .old) (s .new) (s .rhss)) (numbered 0 (take (z .linears) (s .dsts)) (replicate 4096 0)) (z .linears) (drop left order) × ((left ≤ length order) × (z .linears ≤ length decisions) × (z .linears ≤ alive) × (z .linears ≤ reach)))))
+  masks-asks table order left alive reach k a b =
       let n = memory-definitions 8192 z s memory in
-      (memory, (accepted .once, (accepted .single, (r .no-circle, (q, (r .long, omega (arith, n, a), omega (arith, n, b)))))))
+      (memory, (accepted .once, (accepted .single, (k .named, (k .within, r .long, omega (arith, n, a), omega (arith, n, b))))))
 
   -- alive is the length of the store of masks
   pub looks-asks : (t : List ℕ) (alive : ℕ) → t ≡ numbered 0 (take (z .linears) (s .dsts)) (replicate 4096 0) → alive ≡ 10240

@@ -1,56 +1,83 @@
--- From what deciding answers to what fusing answers. Assumes nothing.
+-- From what the walk and the decisions leave to what fusing answers. Assumes nothing.
 use mathlib.Core.Path.{_≡_, refl, sym, ap, _∙_}
-use Prim.Native.Nat.{ℕ, _≤_}
+use Prim.Native.Nat.{ℕ, _≤_, _<_}
 use native.Mathlib.Omega.{arith}
 use mathlib.Core.Bool.{Bool, true, false, not, _||_, _&&_}
-use mathlib.Core.List.{List}
+use mathlib.Core.List.{List, List·Memᴰ}
 use lib.Dec.{ltb, leb}
 use borrow.Author.Tests.{leb-true, leb-false, not-true, not-false, lt-ltb, le-ltb}
-use lib.ListN.{length}
+use lib.ListN.{length, take, drop, replicate, length-replicate}
 use Rattle.word.specs.Answers.{Told}
 use Rattle.lower.specs.declared.Sizes.{Sizes}
-use Rattle.lower.specs.Stores.{systemOf}
+use Rattle.lower.specs.Accepted.{Once, NoCircle}
+use Rattle.lower.specs.Stores.{Stores, systemOf}
+use Rattle.lower.specs.Faults.{memoryFault}
 use Rattle.lower.proofs.Checks.{memory-definitions}
+use Rattle.legraph.specs.declared.Walk.{Walk}
+use Rattle.legraph.specs.Tables.{numbered}
+use Rattle.legraph.specs.Walked.{Walked, walkOf, rhsIn}
 use Rattle.commit_set.specs.Numbers.{stateAt}
-use Rattle.commit_set.specs.Answer.{Decides, refused as was-refused, circular as was-circular, short as was-short, decided}
-use Rattle.commit_set.proofs.Answers.{memory-none, slots-few}
+use Rattle.commit_set.specs.Orders.{InOrder}
+use Rattle.commit_set.specs.Answer.{decisionFault, Solution}
+use Rattle.commit_set.proofs.Answers.{memory-none, once, slots-few, outcome}
 use Rattle.commit_set.proofs.Theorem.{decided-accepted}
+use Rattle.reach.proofs.Ordered.{walk-orders}
 use Rattle.patch.specs.declared.Cursor.{Cursor}
 use Rattle.patch.specs.Patch.{termsWritten}
 use Rattle.fusion.specs.declared.Counts.{Counts}
-use Rattle.fusion.specs.declared.Fused.the-variants.{Done, Refused}
+use Rattle.fusion.specs.declared.Fused.the-variants.{Done}
 use Rattle.fusion.specs.Left.{Lent, input, output, fused, hasRoom, countsOf, sizesAfter, leaves}
-use Rattle.fusion.specs.Answer.{toldFused, Fuses, refused, circular, short, patches}
+use Rattle.fusion.specs.Answer.{toldFused, Fuses, short, patches}
 use Rattle.fusion.proofs.System.{system-left}
-use Rattle.fusion.specs.Steps.{Ready, chosen, Holds, Rebuilt, lacksRoom, Patched, short as is-short, patches as is-patched}
+use Rattle.fusion.specs.Steps.{Ready, Ordered, chosen, Holds, Rebuilt, lacksRoom, Patched, short as is-short, patches as is-patched}
 
-module _ (slots : ℕ) (z : Sizes) (l l′ : Lent) (ds ds′ : List ℕ) where
-  pub refused-answer : (r : ℕ) → Decides slots z (input l) ds ds′ r → length ds ≡ 1024 → (r ≡ 0 → ⊥) → l′ ≡ l → Fuses slots z l l′ (toldFused (Refused r))
-  unfolding toldFused
-  refused-answer r (was-refused e h k) n q same = refused e h same
-  refused-answer _ (was-circular f w c k) n q same = circular f w c same
-  refused-answer _ (was-short f nc m k) n q same = absurd (omega (arith, memory-definitions 8192 z (input l) (memory-none slots z (input l) f), m, n))
-  refused-answer _ (decided f nc m y) n q same = absurd (q refl)
+-- ---- the walk
 
-  pub done-answer : (r : ℕ) → Decides slots z (input l) ds ds′ r → r ≡ 0 → (o : Told) → Patched z ds′ l l′ o → Fuses slots z l l′ o
-  done-answer r (was-refused e h k) q o x = absurd (h q)
-  done-answer _ (was-circular f w c k) q o x = absurd (omega (arith, q))
-  done-answer _ (was-short f nc m k) q o x = absurd (omega (arith, q))
-  done-answer _ (decided f nc m y) q _ (is-short lacks same) = short f nc (stateAt ds′) (y .solves) lacks same
-  done-answer _ (decided f nc m y) q _ (is-patched has left) =
-      patches f nc (stateAt ds′) (record {
+module _ (slots : ℕ) (z : Sizes) (s : Stores) (f : decisionFault slots z s ≡ 0) where
+  abbrev made : List ℕ
+  made = numbered 0 (take (z .linears) (s .dsts)) (replicate 4096 0)
+
+  abbrev walked : Walked
+  walked = walkOf (rhsIn (s .old) (s .new) (s .rhss)) made (z .linears) (replicate 1024 0) (replicate 1024 0)
+
+  -- a walk that has met no circle leaves an order
+  pub ordered : (c : Walk) (table order : List ℕ) → table ≡ made → c .left ≡ walked .left → c .circle ≡ walked .circle → order ≡ walked .order → length order ≡ 1024
+      → c .circle ≡ false → Ordered z s table order (c .left)
+  ordered c table order t l b o n h =
+      let r = outcome slots z s f c order l b o in
+      let w = walk-orders z s (memory-none slots z s f) (once slots z s f) (r .none h) (replicate 1024 0) (omega (arith, length-replicate {A = ℕ} 1024 0)) (c .left) order l o in
+      record { table-is = t; named = w .0; used = r .ordered h; within = w .1; few = omega (arith, n) }
+
+  -- n is the length of the store of decisions
+  pub decide-asks : (table order : List ℕ) (left n : ℕ) → Ordered z s table order left → n ≡ 1024
+      → (memoryFault 8192 z s ≡ 0)
+      × (Once (systemOf z s .linears) × ((table ≡ made) × (InOrder (systemOf z s) (λ d. false) (drop left order) × (((d : ℕ) → List·Memᴰ d (drop left order) → d < z .linears) × (length order < 65536) × (z .linears ≤ n)))))
+  decide-asks table order left n k q =
+      (memory-none slots z s f, (once slots z s f, (k .table-is, (k .used, (k .named .only, k .few, omega (arith, memory-definitions 8192 z s (memory-none slots z s f), q))))))
+
+-- ---- what is decided
+
+module _ (slots : ℕ) (z : Sizes) (l : Lent) (f : decisionFault slots z (input l) ≡ 0) (none : NoCircle (fused z l)) (ds ds′ : List ℕ) (y : Solution slots (fused z l) ds ds′) where
+  pub ready : length ds ≡ 1024 → Ready z (input l) ds′
+  ready n = record {
+    slots = slots;
+    fault = f;
+    no-circle = none;
+    solves = y .solves;
+    long = omega (arith, memory-definitions 8192 z (input l) (memory-none slots z (input l) f), n, y .long);
+  }
+
+  pub done-answer : (l′ : Lent) (o : Told) → Patched z ds′ l l′ o → Fuses slots z l l′ o
+  done-answer l′ _ (is-short lacks same) = short f none (stateAt ds′) (y .solves) lacks same
+  done-answer l′ _ (is-patched has left) =
+      patches f none (stateAt ds′)
+      (record {
         solves = y .solves;
         fits = has;
         left = left;
         system = ap (λ (x : Lent). systemOf (sizesAfter (fused z l) (chosen z (input l) ds′) z) (output x)) left
-            ∙ system-left slots z l (stateAt ds′) (memory-none slots z (input l) f) (decided-accepted slots z (input l) f nc) (y .solves) (slots-few slots z (input l) f) has;
+            ∙ system-left slots z l (stateAt ds′) (memory-none slots z (input l) f) (decided-accepted slots z (input l) f none) (y .solves) (slots-few slots z (input l) f) has;
       })
-
-  pub ready : (r : ℕ) → Decides slots z (input l) ds ds′ r → r ≡ 0 → Ready z (input l) ds′
-  ready r (was-refused e h k) q = absurd (h q)
-  ready _ (was-circular f w c k) q = absurd (omega (arith, q))
-  ready _ (was-short f nc m k) q = absurd (omega (arith, q))
-  ready _ (decided f nc m y) q = record { slots = slots; fault = f; no-circle = nc; solves = y .solves; long = omega (arith, m, y .long) }
 
 -- ---- room
 

@@ -1,6 +1,7 @@
 -- What stands between the steps of fusing.
 --
 --   Ready          a system that nothing is refused in, and its decisions
+--   Ordered        the definition of each wire, and an order of all definitions, each before those that it names
 --   chosen         the wires that they commit
 --   Rebuilt        what rebuilding has come to: the new terms and the numbers of their operands, or a store that is too short
 --   Holds          the new terms and the numbers of their operands, from the front of their stores on
@@ -15,18 +16,22 @@ use Prim.Native.Nat.{ℕ, _+_, _-_, _≤_, _<_}
 use mathlib.Core.Bool.{Bool, true, false, _||_}
 use mathlib.Core.List.{List, map}
 use lib.Dec.{ltb}
-use lib.ListN.{length, take}
+use lib.ListN.{length, take, drop, replicate}
 use Rattle.word.specs.Answers.{Told, refused}
 use Rattle.operand.specs.Numbers.{termNumber}
 use Rattle.lower.specs.declared.Sizes.{Sizes}
 use Rattle.lower.specs.Model.{System}
 use Rattle.lower.specs.Accepted.{NoCircle}
 use Rattle.lower.specs.Stores.{Stores, systemOf}
+use Rattle.legraph.specs.Tables.{numbered}
+use Rattle.legraph.specs.Walked.{rhsIn}
+use Rattle.commit_set.specs.Orders.{InOrder}
 use Rattle.commit_set.specs.Decision.{Solves}
 use Rattle.commit_set.specs.Numbers.{stateAt}
 use Rattle.commit_set.specs.Answer.{ROOM, decisionFault}
 use Rattle.patch.specs.declared.Cursor.{Cursor}
 use Rattle.patch.specs.Patch.{commitSet, written, termsWritten, rebuilds}
+use Rattle.reach.specs.Steps.{Order}
 use Rattle.apply.specs.Applied.{isStranded, keepFrom, committedWires}
 use Rattle.fusion.specs.declared.Counts.{Counts}
 use Rattle.fusion.specs.declared.Linears.{Linears}
@@ -40,6 +45,13 @@ pub record Ready (z : Sizes) (s : Stores) (decisions : List ℕ) : Type 0 where
   pub no-circle : NoCircle (systemOf z s)
   pub solves : Solves slots (systemOf z s) (stateAt decisions)
   pub long : z .linears ≤ length decisions
+
+pub record Ordered (z : Sizes) (s : Stores) (table order : List ℕ) (left : ℕ) : Type 0 where
+  pub table-is : table ≡ numbered 0 (take (z .linears) (s .dsts)) (replicate 4096 0)
+  pub named : Order (rhsIn (s .old) (s .new) (s .rhss)) (numbered 0 (take (z .linears) (s .dsts)) (replicate 4096 0)) (z .linears) (drop left order)
+  pub used : InOrder (systemOf z s) (λ d. false) (drop left order)
+  pub within : left ≤ length order
+  pub few : length order < 65536
 
 abbrev pub chosen : Sizes → Stores → List ℕ → ℕ → Bool
 chosen z s decisions = commitSet (systemOf z s) (stateAt decisions)

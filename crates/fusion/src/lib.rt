@@ -5,13 +5,15 @@ ghost use mathlib.Core.List.{[], _++_};
 ghost use Prim.Native.Nat.{_+_, _≤_};
 ghost use lib.ListN.{length, take, drop, replicate};
 ghost use lib.Seq.{sets};
+ghost use Rattle.lower.specs.Accepted.{NoCircle};
 ghost use Rattle.lower.specs.Stores.{stores, systemOf};
 ghost use Rattle.legraph.specs.Tables.{numbered};
+ghost use Rattle.commit_set.specs.Answer.{decisionFault};
 ghost use Rattle.reach.specs.Reach.{ReachIn};
 ghost use Rattle.apply.specs.Applied.{isStranded, keepFrom, committedWires};
 ghost use Rattle.fusion.specs.Left.{lent, hasRoom, countsOf, leaves};
 ghost use Rattle.fusion.specs.Answer.{toldFused, Fuses};
-ghost use Rattle.fusion.specs.Steps.{Ready, chosen, Holds, Rebuilt, lacksRoom, Closable, countsBy, Patched};
+ghost use Rattle.fusion.specs.Steps.{Ready, Ordered, chosen, Holds, Rebuilt, lacksRoom, Closable, countsBy, Patched};
 use lower::Sizes;
 use patch::Cursor;
 
@@ -180,14 +182,16 @@ fn rebuild(
     rhss: &[u64],
     z: Sizes,
     decisions: &[u64],
-    table: &mut [u16],
+    table: &[u16],
+    order: &[u16],
+    left: usize,
     reach: &mut [u64],
     out: &mut [u64],
     list: &mut [u64],
 ) -> Cursor
     requires { ⌜ Ready z (stores (now old) [] (now ands) (now imuls) (now bmuls) (now zeros) (now dsts) (now rhss)) (now decisions) ⌝ }
-    requires { ⌜ (now table ≡ replicate 4096 0) × (length (now reach) ≡ 1024) × (length (now out) ≡ 16384) × (length (now list) ≡ 7168) ⌝ }
-    ensures { λ r. ⌜ now (table .exit) ≡ numbered 0 (take (z .linears) (now (dsts .entry))) (replicate 4096 0) ⌝ }
+    requires { ⌜ Ordered z (stores (now old) [] (now ands) (now imuls) (now bmuls) (now zeros) (now dsts) (now rhss)) (now table) (now order) left ⌝ }
+    requires { ⌜ (length (now reach) ≡ 1024) × (length (now out) ≡ 16384) × (length (now list) ≡ 7168) ⌝ }
     ensures { λ r. ⌜ ReachIn (systemOf z (stores (now (old .entry)) [] (now (ands .entry)) (now (imuls .entry)) (now (bmuls .entry)) (now (zeros .entry)) (now (dsts .entry)) (now (rhss .entry)))) (chosen z (stores (now (old .entry)) [] (now (ands .entry)) (now (imuls .entry)) (now (bmuls .entry)) (now (zeros .entry)) (now (dsts .entry)) (now (rhss .entry))) (now (decisions .entry))) (z .linears) (now (dsts .entry)) (now (reach .exit)) ⌝ }
     ensures { λ r. ⌜ Rebuilt (systemOf z (stores (now (old .entry)) [] (now (ands .entry)) (now (imuls .entry)) (now (bmuls .entry)) (now (zeros .entry)) (now (dsts .entry)) (now (rhss .entry)))) (chosen z (stores (now (old .entry)) [] (now (ands .entry)) (now (imuls .entry)) (now (bmuls .entry)) (now (zeros .entry)) (now (dsts .entry)) (now (rhss .entry))) (now (decisions .entry))) (now (out .entry)) (now (list .entry)) (now (out .exit)) (now (list .exit)) r ⌝ }
 {
@@ -204,11 +208,12 @@ fn rebuild(
         rhss,
         z,
         decisions,
-        &mut *table,
+        order,
+        left,
         &mut alive,
         &mut *reach,
     );
-    patch::expand::write_looks(old, &old[0..0], rhss, &*table, decisions, &mut alive, n);
+    patch::expand::write_looks(old, &old[0..0], rhss, table, decisions, &mut alive, n);
     let b = patch::build::build(
         old,
         &old[0..0],
@@ -218,7 +223,7 @@ fn rebuild(
         zeros,
         rhss,
         z,
-        &*table,
+        table,
         decisions,
         &alive,
         &mut *out,
@@ -240,12 +245,15 @@ fn patch_decided(
     flags: &mut [u8],
     z: Sizes,
     decisions: &[u64],
+    table: &[u16],
+    order: &[u16],
+    left: usize,
 ) -> Fused
     requires { ⌜ Ready z (stores (now old) [] (now ands) (now imuls) (now bmuls) (now zeros) (now dsts) (now rhss)) (now decisions) ⌝ }
+    requires { ⌜ Ordered z (stores (now old) [] (now ands) (now imuls) (now bmuls) (now zeros) (now dsts) (now rhss)) (now table) (now order) left ⌝ }
     ensures { λ r. ⌜ Patched z (now (decisions .entry)) (lent (now (old .entry)) (now (new .entry)) (now (ands .entry)) (now (imuls .entry)) (now (bmuls .entry)) (now (zeros .entry)) (now (dsts .entry)) (now (rhss .entry)) (now (flags .entry))) (lent (now (old .exit)) (now (new .exit)) (now (ands .exit)) (now (imuls .exit)) (now (bmuls .exit)) (now (zeros .exit)) (now (dsts .exit)) (now (rhss .exit)) (now (flags .exit))) (toldFused r) ⌝ }
 {
     let wires = z.wires;
-    let mut table = [0u16; lower::MAX_WIRES];
     let mut reach = [0u64; lower::MAX_DEFINITIONS];
     let mut out = [0u64; MAX_NEW_TERMS];
     let mut list = [0u64; MAX_OPERANDS];
@@ -259,7 +267,9 @@ fn patch_decided(
         &*rhss,
         z,
         decisions,
-        &mut table,
+        table,
+        order,
+        left,
         &mut reach,
         &mut out,
         &mut list,
@@ -279,12 +289,119 @@ fn patch_decided(
         &mut *flags,
         z,
         decisions,
-        &table,
+        table,
         &reach,
         &out,
         &list,
         c.count,
     ))
+}
+
+// Decides a system by an order of its definitions, and patches it.
+fn fuse_in_order(
+    old: &[u64],
+    new: &mut [u64],
+    ands: &mut [u64],
+    imuls: &mut [u64],
+    bmuls: &mut [u64],
+    zeros: &mut [u64],
+    dsts: &mut [u16],
+    rhss: &mut [u64],
+    flags: &mut [u8],
+    z: Sizes,
+    table: &[u16],
+    order: &[u16],
+    left: usize,
+    slots: u8,
+) -> Fused
+    requires { ⌜ decisionFault slots z (stores (now old) [] (now ands) (now imuls) (now bmuls) (now zeros) (now dsts) (now rhss)) ≡ 0 ⌝ }
+    requires { ⌜ NoCircle (systemOf z (stores (now old) [] (now ands) (now imuls) (now bmuls) (now zeros) (now dsts) (now rhss))) ⌝ }
+    requires { ⌜ Ordered z (stores (now old) [] (now ands) (now imuls) (now bmuls) (now zeros) (now dsts) (now rhss)) (now table) (now order) left ⌝ }
+    ensures { λ r. ⌜ Fuses slots z (lent (now (old .entry)) (now (new .entry)) (now (ands .entry)) (now (imuls .entry)) (now (bmuls .entry)) (now (zeros .entry)) (now (dsts .entry)) (now (rhss .entry)) (now (flags .entry))) (lent (now (old .exit)) (now (new .exit)) (now (ands .exit)) (now (imuls .exit)) (now (bmuls .exit)) (now (zeros .exit)) (now (dsts .exit)) (now (rhss .exit)) (now (flags .exit))) (toldFused r) ⌝ }
+{
+    let mut decisions = [0u64; lower::MAX_DEFINITIONS];
+    commit_set::decide_in_order(
+        old,
+        &old[0..0],
+        &*ands,
+        &*imuls,
+        &*bmuls,
+        &*zeros,
+        &*dsts,
+        &*rhss,
+        z,
+        table,
+        order,
+        left,
+        slots,
+        &mut decisions,
+    );
+    patch_decided(
+        old,
+        &mut *new,
+        &mut *ands,
+        &mut *imuls,
+        &mut *bmuls,
+        &mut *zeros,
+        &mut *dsts,
+        &mut *rhss,
+        &mut *flags,
+        z,
+        &decisions,
+        table,
+        order,
+        left,
+    )
+}
+
+// Fuses a system that the checks have found nothing in, or answers 11 or 12. One table and one walk serve the decisions and the masks.
+fn fuse_checked(
+    old: &[u64],
+    new: &mut [u64],
+    ands: &mut [u64],
+    imuls: &mut [u64],
+    bmuls: &mut [u64],
+    zeros: &mut [u64],
+    dsts: &mut [u16],
+    rhss: &mut [u64],
+    flags: &mut [u8],
+    z: Sizes,
+    slots: u8,
+) -> Fused
+    requires { ⌜ decisionFault slots z (stores (now old) [] (now ands) (now imuls) (now bmuls) (now zeros) (now dsts) (now rhss)) ≡ 0 ⌝ }
+    ensures { λ r. ⌜ Fuses slots z (lent (now (old .entry)) (now (new .entry)) (now (ands .entry)) (now (imuls .entry)) (now (bmuls .entry)) (now (zeros .entry)) (now (dsts .entry)) (now (rhss .entry)) (now (flags .entry))) (lent (now (old .exit)) (now (new .exit)) (now (ands .exit)) (now (imuls .exit)) (now (bmuls .exit)) (now (zeros .exit)) (now (dsts .exit)) (now (rhss .exit)) (now (flags .exit))) (toldFused r) ⌝ }
+{
+    let n = z.linears;
+    let mut table = [0u16; lower::MAX_WIRES];
+    let mut order = [0u16; lower::MAX_DEFINITIONS];
+    let walked = commit_set::order_definitions(
+        old,
+        &old[0..0],
+        &*dsts,
+        &*rhss,
+        n,
+        &mut table,
+        &mut order,
+    );
+    if walked.circle {
+        return Fused::Refused(commit_set::CIRCLE);
+    }
+    fuse_in_order(
+        old,
+        &mut *new,
+        &mut *ands,
+        &mut *imuls,
+        &mut *bmuls,
+        &mut *zeros,
+        &mut *dsts,
+        &mut *rhss,
+        &mut *flags,
+        z,
+        &table,
+        &order,
+        walked.left,
+        slots,
+    )
 }
 
 // Fuses a system in the lent stores with so many slots a term: its lists are patched, `new` has the new terms and `flags` the committed
@@ -304,8 +421,7 @@ pub fn fuse(
 ) -> Fused
     ensures { λ r. ⌜ Fuses slots z (lent (now (old .entry)) (now (new .entry)) (now (ands .entry)) (now (imuls .entry)) (now (bmuls .entry)) (now (zeros .entry)) (now (dsts .entry)) (now (rhss .entry)) (now (flags .entry))) (lent (now (old .exit)) (now (new .exit)) (now (ands .exit)) (now (imuls .exit)) (now (bmuls .exit)) (now (zeros .exit)) (now (dsts .exit)) (now (rhss .exit)) (now (flags .exit))) (toldFused r) ⌝ }
 {
-    let mut decisions = [0u64; lower::MAX_DEFINITIONS];
-    let fault = commit_set::decide(
+    let fault = commit_set::check(
         old,
         &old[0..0],
         &*ands,
@@ -316,12 +432,11 @@ pub fn fuse(
         &*rhss,
         z,
         slots,
-        &mut decisions,
     );
     if fault != 0 {
         return Fused::Refused(fault);
     }
-    patch_decided(
+    fuse_checked(
         old,
         &mut *new,
         &mut *ands,
@@ -332,6 +447,6 @@ pub fn fuse(
         &mut *rhss,
         &mut *flags,
         z,
-        &decisions,
+        slots as u8,
     )
 }

@@ -1,27 +1,24 @@
--- A refusal of deciding is one of fusing; what is decided is rebuilt and patched. Assumes nothing.
-use Rattle.fusion.proofs.Running.{refused-answer, ready, done-answer}
-use Rattle.fusion.specs.Left.{Lent, lent}
-use lib.ListN.{length-replicate}
-use mathlib.Core.Path.{refl}
-use Prim.Native.Nat.{ℕ}
+-- What the checks refuse is refused; the rest is fused. Assumes nothing.
+use Rattle.fusion.specs.Answer.{toldFused, refused}
+use Rattle.fusion.specs.Left.{Lent, lent, input}
+use Rattle.commit_set.proofs.Answers.{slots-few}
+use native.Mathlib.Omega.{arith}
+use mathlib.Core.Path.{refl, sym, _∙_}
 use borrow.Author.Needs.{needs}
 use Rattle.fusion.proofs.fuse.Statement.{statement}
 use Rattle.fusion.proofs.fuse.Tie as tie
 
-sub-decide : tie.Need-sub-decide
-sub-decide c = search needs
+sub-check : tie.Need-sub-check
+sub-check c = search needs
 
-part-decide-start : tie.Need-part-decide-start
-part-decide-start c = search needs
+part-check-start : tie.Need-part-check-start
+part-check-start c = search needs
 
-part-decide-end : tie.Need-part-decide-end
-part-decide-end c = search needs
+part-check-end : tie.Need-part-check-end
+part-check-end c = search needs
 
-slice-aggregate-decide : tie.Need-slice-aggregate-decide
-slice-aggregate-decide c = search needs
-
-decide-requires : tie.Need-decide-requires
-decide-requires c κs = search needs
+check-requires : tie.Need-check-requires
+check-requires c κs = search needs
 
 same-length : tie.Need-same-length
 same-length c = search needs
@@ -42,17 +39,16 @@ same-length-6 : tie.Need-same-length-6
 same-length-6 c = search needs
 
 returns : tie.Need-returns
-returns c = let s = c .before .before .before .before .before .before .before .before .before .before .before .before .before .before .before .before .before .before .before .before in
-    let l : Lent = lent (s .args .old .now) (s .args .new .now) (s .args .ands .now) (s .args .imuls .now) (s .args .bmuls .now) (s .args .zeros .now) (s .args .dsts .now) (s .args .rhss .now) (s .args .flags .now) in
-    refused-answer (s .args .slots) (s .args .z) l l _ _ _ (c .before .before .decide .ensures) (length-replicate {A = ℕ} 1024 0) (c .if1 .taken) refl
+unfolding toldFused
+returns c = refused (c .before .check .ensures) (c .if1 .taken) refl
 
-slice-aggregate-patch-decided : tie.Need-slice-aggregate-patch-decided
-slice-aggregate-patch-decided c = search needs
-
-patch-decided-requires : tie.Need-patch-decided-requires
-patch-decided-requires c κs = let s = c .before .before .before .before .before .before .before .before .before .before .before .before .before .before .before .before .before .before .before .before .before .before .before .before .before .before .before .before .before in
+cast-fuse-checked : tie.Need-cast-fuse-checked
+cast-fuse-checked c = let s = c .before .before .before .before .before .before .before .before .before .before .before .before .before .before .before .before .before .before .before .before .before .before .before .before .before .before in
     let l : Lent = lent (s .args .old .now) (s .args .new .now) (s .args .ands .now) (s .args .imuls .now) (s .args .bmuls .now) (s .args .zeros .now) (s .args .dsts .now) (s .args .rhss .now) (s .args .flags .now) in
-    ready (s .args .slots) (s .args .z) l l _ _ _ (c .before .before .before .before .before .before .before .before .before .before .before .decide .ensures) (c .before .before .before .before .before .before .before .before .before .if1 .left)
+    omega (arith, slots-few (s .args .slots) (s .args .z) (input l) (sym (c .before .before .before .before .before .before .before .before .before .check .ensures) ∙ c .before .before .before .before .before .before .before .before .if1 .left))
+
+fuse-checked-requires : tie.Need-fuse-checked-requires
+fuse-checked-requires c κs = sym (c .before .before .before .before .before .before .before .before .before .check .ensures) ∙ c .before .before .before .before .before .before .before .before .if1 .left
 
 same-length-7 : tie.Need-same-length-7
 same-length-7 c = search needs
@@ -79,19 +75,16 @@ same-length-14 : tie.Need-same-length-14
 same-length-14 c = search needs
 
 returns-2 : tie.Need-returns-2
-returns-2 c = let s = c .before .before .before .before .before .before .before .before .before .before .before .before .before .before .before .before .before .before .before .before .before .before .before .before .before .before .before .before .before .before .before .before .before .before .before .before .before .before .before .before .before .before .before .before .before .before in
-    let l : Lent = lent (s .args .old .now) (s .args .new .now) (s .args .ands .now) (s .args .imuls .now) (s .args .bmuls .now) (s .args .zeros .now) (s .args .dsts .now) (s .args .rhss .now) (s .args .flags .now) in
-    done-answer (s .args .slots) (s .args .z) l _ _ _ _ (c .before .before .before .before .before .before .before .before .before .before .before .before .before .before .before .before .before .before .before .before .before .before .before .before .before .before .before .before .decide .ensures) (c .before .before .before .before .before .before .before .before .before .before .before .before .before .before .before .before .before .before .before .before .before .before .before .before .before .before .if1 .left) _ (c .before .before .before .before .before .before .before .before .before .before .before .before .before .before .before .before .patch-decided .ensures)
+returns-2 c = c .before .before .before .before .before .before .before .before .before .before .before .before .before .before .before .before .fuse-checked .ensures
 
 pub fuse-spec : {M : Type 1} → statement M
 fuse-spec =
     tie.close
     (tie.spec
-    sub-decide
-    part-decide-start
-    part-decide-end
-    slice-aggregate-decide
-    decide-requires
+    sub-check
+    part-check-start
+    part-check-end
+    check-requires
     same-length
     same-length-2
     same-length-3
@@ -99,8 +92,8 @@ fuse-spec =
     same-length-5
     same-length-6
     returns
-    slice-aggregate-patch-decided
-    patch-decided-requires
+    cast-fuse-checked
+    fuse-checked-requires
     same-length-7
     same-length-8
     same-length-9

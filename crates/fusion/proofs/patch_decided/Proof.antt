@@ -19,11 +19,8 @@ slice-aggregate-rebuild-2 c = search needs
 slice-aggregate-rebuild-3 : tie.Need-slice-aggregate-rebuild-3
 slice-aggregate-rebuild-3 c = search needs
 
-slice-aggregate-rebuild-4 : tie.Need-slice-aggregate-rebuild-4
-slice-aggregate-rebuild-4 c = search needs
-
 rebuild-requires : tie.Need-rebuild-requires
-rebuild-requires c κs = search needs
+rebuild-requires c κs = let s = c .before .before .before .before .before .before .before .before .before .before .before .before .before .before .before .before .before .before .before .before .before in (s .pre .0, (s .pre .1, (length-replicate {A = ℕ} 1024 0, length-replicate {A = ℕ} 16384 0, length-replicate {A = ℕ} 7168 0)))
 
 lacks-room-requires : tie.Need-lacks-room-requires
 lacks-room-requires c κs = search needs
@@ -50,7 +47,7 @@ returns : tie.Need-returns
 unfolding toldFused
 returns c = let s = c .before .before .before .before .before .before .before .before .before .before .before .before .before .before .before .before .before .before .before .before .before .before .before .before .before .before .before in
     let l : Lent = lent (s .args .old .now) (s .args .new .now) (s .args .ands .now) (s .args .imuls .now) (s .args .bmuls .now) (s .args .zeros .now) (s .args .dsts .now) (s .args .rhss .now) (s .args .flags .now) in
-    short (room-lacks (s .args .z) l _ _ _ _ _ _ (c .before .before .before .before .before .before .rebuild .ensures .1 .1) (length-replicate {A = ℕ} 16384 0) (sym (c .before .lacks-room .ensures) ∙ c .if1 .taken)) refl
+    short (room-lacks (s .args .z) l _ _ _ _ _ _ (c .before .before .before .before .before .rebuild .ensures .1) (length-replicate {A = ℕ} 16384 0) (sym (c .before .lacks-room .ensures) ∙ c .if1 .taken)) refl
 
 slice-aggregate-apply-patches : tie.Need-slice-aggregate-apply-patches
 slice-aggregate-apply-patches c = search needs
@@ -61,15 +58,12 @@ slice-aggregate-apply-patches-2 c = search needs
 slice-aggregate-apply-patches-3 : tie.Need-slice-aggregate-apply-patches-3
 slice-aggregate-apply-patches-3 c = search needs
 
-slice-aggregate-apply-patches-4 : tie.Need-slice-aggregate-apply-patches-4
-slice-aggregate-apply-patches-4 c = search needs
-
 apply-patches-requires : tie.Need-apply-patches-requires
-apply-patches-requires c κs = let s = c .before .before .before .before .before .before .before .before .before .before .before .before .before .before .before .before .before .before .before .before .before .before .before .before .before .before .before .before .before .before .before .before .before .before .before .before .before .before .before in
+apply-patches-requires c κs = let s = c .before .before .before .before .before .before .before .before .before .before .before .before .before .before .before .before .before .before .before .before .before .before .before .before .before .before .before .before .before .before .before .before .before .before .before .before .before .before in
     let l : Lent = lent (s .args .old .now) (s .args .new .now) (s .args .ands .now) (s .args .imuls .now) (s .args .bmuls .now) (s .args .zeros .now) (s .args .dsts .now) (s .args .rhss .now) (s .args .flags .now) in
-    let e = c .before .before .before .before .before .before .before .before .before .before .before .before .before .before .before .before .before .before .rebuild .ensures in
-    let h = room-has (s .args .z) l _ _ _ _ _ _ (e .1 .1) (length-replicate {A = ℕ} 16384 0) (sym (c .before .before .before .before .before .before .before .before .before .before .before .before .before .lacks-room .ensures) ∙ c .before .before .before .before .before .before .before .before .before .before .before .before .if1 .left) in
-    (s .pre, (e .0, (e .1 .0, (room-holds (s .args .z) l _ _ _ _ _ _ (e .1 .1) (length-replicate {A = ℕ} 16384 0) h, h))))
+    let e = c .before .before .before .before .before .before .before .before .before .before .before .before .before .before .before .before .rebuild .ensures in
+    let h = room-has (s .args .z) l _ _ _ _ _ _ (e .1) (length-replicate {A = ℕ} 16384 0) (sym (c .before .before .before .before .before .before .before .before .before .before .before .before .lacks-room .ensures) ∙ c .before .before .before .before .before .before .before .before .before .before .before .if1 .left) in
+    (s .pre .0, (s .pre .1 .table-is, (e .0, (room-holds (s .args .z) l _ _ _ _ _ _ (e .1) (length-replicate {A = ℕ} 16384 0) h, h))))
 
 same-length-7 : tie.Need-same-length-7
 same-length-7 c = search needs
@@ -96,10 +90,10 @@ same-length-14 : tie.Need-same-length-14
 same-length-14 c = search needs
 
 returns-2 : tie.Need-returns-2
-returns-2 c = let s = c .before .before .before .before .before .before .before .before .before .before .before .before .before .before .before .before .before .before .before .before .before .before .before .before .before .before .before .before .before .before .before .before .before .before .before .before .before .before .before .before .before .before .before .before .before .before .before .before .before .before .before .before .before .before .before .before in
+returns-2 c = let s = c .before .before .before .before .before .before .before .before .before .before .before .before .before .before .before .before .before .before .before .before .before .before .before .before .before .before .before .before .before .before .before .before .before .before .before .before .before .before .before .before .before .before .before .before .before .before .before .before .before .before .before .before .before .before .before in
     let l : Lent = lent (s .args .old .now) (s .args .new .now) (s .args .ands .now) (s .args .imuls .now) (s .args .bmuls .now) (s .args .zeros .now) (s .args .dsts .now) (s .args .rhss .now) (s .args .flags .now) in
-    let e = c .before .before .before .before .before .before .before .before .before .before .before .before .before .before .before .before .before .before .before .before .before .before .before .before .before .before .before .before .before .before .before .before .before .before .before .rebuild .ensures in
-    let h = room-has (s .args .z) l _ _ _ _ _ _ (e .1 .1) (length-replicate {A = ℕ} 16384 0) (sym (c .before .before .before .before .before .before .before .before .before .before .before .before .before .before .before .before .before .before .before .before .before .before .before .before .before .before .before .before .before .before .lacks-room .ensures) ∙ c .before .before .before .before .before .before .before .before .before .before .before .before .before .before .before .before .before .before .before .before .before .before .before .before .before .before .before .before .before .if1 .left) in
+    let e = c .before .before .before .before .before .before .before .before .before .before .before .before .before .before .before .before .before .before .before .before .before .before .before .before .before .before .before .before .before .before .before .before .before .rebuild .ensures in
+    let h = room-has (s .args .z) l _ _ _ _ _ _ (e .1) (length-replicate {A = ℕ} 16384 0) (sym (c .before .before .before .before .before .before .before .before .before .before .before .before .before .before .before .before .before .before .before .before .before .before .before .before .before .before .before .before .before .lacks-room .ensures) ∙ c .before .before .before .before .before .before .before .before .before .before .before .before .before .before .before .before .before .before .before .before .before .before .before .before .before .before .before .before .if1 .left) in
     patched-answer _ _ l _ _ h (c .before .before .before .before .before .before .before .before .before .before .before .before .before .before .before .before .apply-patches .ensures .0) (c .before .before .before .before .before .before .before .before .before .before .before .before .before .before .before .before .apply-patches .ensures .1)
 
 pub patch-decided-spec : {M : Type 1} → statement M
@@ -109,7 +103,6 @@ patch-decided-spec =
     slice-aggregate-rebuild
     slice-aggregate-rebuild-2
     slice-aggregate-rebuild-3
-    slice-aggregate-rebuild-4
     rebuild-requires
     lacks-room-requires
     same-length
@@ -122,7 +115,6 @@ patch-decided-spec =
     slice-aggregate-apply-patches
     slice-aggregate-apply-patches-2
     slice-aggregate-apply-patches-3
-    slice-aggregate-apply-patches-4
     apply-patches-requires
     same-length-7
     same-length-8

@@ -25,7 +25,7 @@ slice-aggregate-masks c = search needs
 masks-requires : tie.Need-masks-requires
 masks-requires c κs = let s = c .before .before .before .before .before .before .before .before .before .before .before .before .before .before .before .before in
     let st : Stores = stores (s .args .old .now) [] (s .args .ands .now) (s .args .imuls .now) (s .args .bmuls .now) (s .args .zeros .now) (s .args .dsts .now) (s .args .rhss .now) in
-    masks-asks (s .args .z) st (s .args .decisions .now) (s .pre .0) _ _ _ (s .pre .1 .0) (length-replicate {A = ℕ} 10240 0) (s .pre .1 .1)
+    masks-asks (s .args .z) st (s .args .decisions .now) (s .pre .0) _ _ _ _ _ (s .pre .1 .0) (length-replicate {A = ℕ} 10240 0) (s .pre .1 .1 .0)
 
 sub-write-looks : tie.Need-sub-write-looks
 sub-write-looks c = search needs
@@ -40,9 +40,9 @@ slice-aggregate-write-looks : tie.Need-slice-aggregate-write-looks
 slice-aggregate-write-looks c = search needs
 
 write-looks-requires : tie.Need-write-looks-requires
-write-looks-requires c κs = let s = c .before .before .before .before .before .before .before .before .before .before .before .before .before .before .before .before .before .before .before .before .before .before .before .before .before in
+write-looks-requires c κs = let s = c .before .before .before .before .before .before .before .before .before .before .before .before .before .before .before .before .before .before .before .before .before .before in
     let st : Stores = stores (s .args .old .now) [] (s .args .ands .now) (s .args .imuls .now) (s .args .bmuls .now) (s .args .zeros .now) (s .args .dsts .now) (s .args .rhss .now) in
-    looks-asks (s .args .z) st (s .args .decisions .now) (s .pre .0) _ _ (c .before .before .before .before .before .before .before .before .masks .ensures .0) (c .before .before .before .before .before .before .before .before .masks .kept .1 .1 .1 .1 .1 .1 .1 .1 .1 .1 .1 .0 ∙ length-replicate {A = ℕ} 10240 0)
+    looks-asks (s .args .z) st (s .args .decisions .now) (s .pre .0) _ _ (s .pre .1 .0 .table-is) (c .before .before .before .before .before .masks .kept .1 .1 .1 .1 .1 .1 .1 .1 .1 .1 .1 .1 .0 ∙ length-replicate {A = ℕ} 10240 0)
 
 sub-build : tie.Need-sub-build
 sub-build c = search needs
@@ -57,11 +57,11 @@ slice-aggregate-build : tie.Need-slice-aggregate-build
 slice-aggregate-build c = search needs
 
 build-requires : tie.Need-build-requires
-build-requires c κs = let s = c .before .before .before .before .before .before .before .before .before .before .before .before .before .before .before .before .before .before .before .before .before .before .before .before .before .before .before .before .before .before .before .before in
+build-requires c κs = let s = c .before .before .before .before .before .before .before .before .before .before .before .before .before .before .before .before .before .before .before .before .before .before .before .before .before .before .before .before in
     let st : Stores = stores (s .args .old .now) [] (s .args .ands .now) (s .args .imuls .now) (s .args .bmuls .now) (s .args .zeros .now) (s .args .dsts .now) (s .args .rhss .now) in
-    let e = c .before .before .before .before .before .before .before .before .before .before .before .before .before .before .before .masks .ensures in
-    let w = c .before .before .before .before .before .before .write-looks .ensures in
-    (build-asks (s .args .z) st (s .args .decisions .now) (s .pre .0) _ (λ d h. w .0 d (mask-first (s .args .z) st (s .args .decisions .now) (s .pre .0) d h) ∙ e .1 .0 d h) _ (e .0) (w .1), omega (arith, s .pre .1 .2))
+    let e = c .before .before .before .before .before .before .before .before .before .before .before .masks .ensures in
+    let w = c .before .before .before .before .before .write-looks .ensures in
+    (build-asks (s .args .z) st (s .args .decisions .now) (s .pre .0) _ (λ d h. w .0 d (mask-first (s .args .z) st (s .args .decisions .now) (s .pre .0) d h) ∙ e .0 d h) _ (s .pre .1 .0 .table-is) (w .1), omega (arith, s .pre .1 .1 .1))
 
 same-length : tie.Need-same-length
 same-length c = search needs
@@ -72,15 +72,12 @@ same-length-2 c = search needs
 same-length-3 : tie.Need-same-length-3
 same-length-3 c = search needs
 
-same-length-4 : tie.Need-same-length-4
-same-length-4 c = search needs
-
 returns : tie.Need-returns
-returns c = let s = c .before .before .before .before .before .before .before .before .before .before .before .before .before .before .before .before .before .before .before .before .before .before .before .before .before .before .before .before .before .before .before .before .before .before .before .before .before .before in
+returns c = let s = c .before .before .before .before .before .before .before .before .before .before .before .before .before .before .before .before .before .before .before .before .before .before .before .before .before .before .before .before .before .before .before .before .before .before in
     let st : Stores = stores (s .args .old .now) [] (s .args .ands .now) (s .args .imuls .now) (s .args .bmuls .now) (s .args .zeros .now) (s .args .dsts .now) (s .args .rhss .now) in
-    let e = c .before .before .before .before .before .before .before .before .before .before .before .before .before .before .before .before .before .before .before .before .before .masks .ensures in
-    let w = c .before .before .before .before .before .before .before .before .before .before .before .before .write-looks .ensures in
-    (e .0, (e .1 .1 .0, rebuilt-made (s .args .z) st (s .args .decisions .now) (s .pre .0) _ (λ d h. w .0 d (mask-first (s .args .z) st (s .args .decisions .now) (s .pre .0) d h) ∙ e .1 .0 d h) _ _ _ _ _ _ (e .0) (c .before .before .before .before .before .build .ensures .0) (s .pre .1 .3)))
+    let e = c .before .before .before .before .before .before .before .before .before .before .before .before .before .before .before .before .before .masks .ensures in
+    let w = c .before .before .before .before .before .before .before .before .before .before .before .write-looks .ensures in
+    (e .1 .0, rebuilt-made (s .args .z) st (s .args .decisions .now) (s .pre .0) _ (λ d h. w .0 d (mask-first (s .args .z) st (s .args .decisions .now) (s .pre .0) d h) ∙ e .0 d h) _ _ _ _ _ _ (s .pre .1 .0 .table-is) (c .before .before .before .before .before .build .ensures .0) (s .pre .1 .1 .2))
 
 pub rebuild-spec : {M : Type 1} → statement M
 rebuild-spec =
@@ -104,5 +101,4 @@ rebuild-spec =
     same-length
     same-length-2
     same-length-3
-    same-length-4
     returns)
