@@ -14,9 +14,12 @@ use Rattle.lower.specs.Accepted.{NoCircle, Accepted}
 use Rattle.lower.specs.Stores.{Stores, systemOf}
 use Rattle.lower.specs.Faults.{faultOf}
 use Rattle.lower.proofs.Explains.{accepted}
+use Rattle.commit_set.specs.declared.Decision.the-variants.{Commit}
+use Rattle.commit_set.specs.Orders.{InOrder}
 use Rattle.commit_set.specs.Numbers.{decisionNumber, stateAt}
 use Rattle.commit_set.specs.Answer.{decisionFault, Solution, Decides, refused, circular, short, decided}
-use Rattle.commit_set.proofs.Ordering.{solution-only}
+use Rattle.commit_set.proofs.Orders.{order-only}
+use Rattle.commit_set.proofs.Ordering.{order}
 use Rattle.commit_set.proofs.Answers.{memory-none, definition-none}
 
 module _ (slots : ℕ) (z : Sizes) (s : Stores) where
@@ -25,11 +28,12 @@ module _ (slots : ℕ) (z : Sizes) (s : Stores) where
   unfolding faultOf
   decided-accepted f n = accepted z s (rw (memory-none slots z s f, definition-none slots z s f)) n
 
-  module _ (l : List ℕ) (a : Accepted (systemOf z s)) (l₁ l₂ : List ℕ) (p : Solution slots (systemOf z s) l l₁) (q : Solution slots (systemOf z s) l l₂) where
+  -- where there is an order, no second store after a solution
+  module _ (ds : List ℕ) (o : InOrder (systemOf z s) (λ d. false) ds) (l l₁ l₂ : List ℕ) (p : Solution slots (systemOf z s) l l₁) (q : Solution slots (systemOf z s) l l₂) where
     same-first : (i : ℕ) → i < length (systemOf z s .linears) → getD l₁ i 0 ≡ getD l₂ i 0
     same-first i h =
         p .exact i h
-        ∙ ap decisionNumber (sym (solution-only slots (systemOf z s) a (stateAt l₁) (p .solves) i h) ∙ solution-only slots (systemOf z s) a (stateAt l₂) (q .solves) i h)
+        ∙ ap decisionNumber (sym (order-only slots (systemOf z s) ds (λ d. Commit) (stateAt l₁) o (p .solves) i h) ∙ order-only slots (systemOf z s) ds (λ d. Commit) (stateAt l₂) o (q .solves) i h)
         ∙ sym (q .exact i h)
 
     same-rest : (i : ℕ) → length (systemOf z s .linears) ≤ i → getD l₁ i 0 ≡ getD l₂ i 0
@@ -40,8 +44,8 @@ module _ (slots : ℕ) (z : Sizes) (s : Stores) where
         ap (λ (j : ℕ). getD x j 0) (sym e) ∙ sym (getD-drop m x (i - m) 0) ∙ ap (λ (t : List ℕ). getD t (i - m) 0) r ∙ getD-drop m y (i - m) 0 ∙ ap (λ (j : ℕ). getD y j 0) e in
         at l₁ l₂ (p .kept ∙ sym (q .kept))
 
-    solution-one : l₁ ≡ l₂
-    solution-one = ext-getD 0 l₁ l₂ (p .long ∙ sym (q .long)) (λ i h. go i (ltb i (length (systemOf z s .linears))) refl)
+    pub solution-once : l₁ ≡ l₂
+    solution-once = ext-getD 0 l₁ l₂ (p .long ∙ sym (q .long)) (λ i h. go i (ltb i (length (systemOf z s .linears))) refl)
       where
         go : (i : ℕ) (b : Bool) → ltb i (length (systemOf z s .linears)) ≡ b → getD l₁ i 0 ≡ getD l₂ i 0
         go i true e = same-first i (ltb-true i (length (systemOf z s .linears)) e)
@@ -65,4 +69,4 @@ module _ (slots : ℕ) (z : Sizes) (s : Stores) where
     decides-once r r′ l₁ l₂ (decided f n m y) (refused e h k′) = absurd (h (e ∙ f))
     decides-once r r′ l₁ l₂ (decided f n m y) (circular f′ w c k′) = absurd (n w c)
     decides-once r r′ l₁ l₂ (decided f n m y) (short f′ n′ m′ k′) = absurd (omega arith)
-    decides-once r r′ l₁ l₂ (decided f n m y) (decided f′ n′ m′ y′) = (refl, solution-one l (decided-accepted f n) l₁ l₂ y y′)
+    decides-once r r′ l₁ l₂ (decided f n m y) (decided f′ n′ m′ y′) = (refl, let d = order slots (systemOf z s) (decided-accepted f n) in solution-once (d .0) (d .1) l l₁ l₂ y y′)

@@ -4,20 +4,23 @@ use Prim.Native.Nat.{ℕ, zero, suc, _<_}
 use native.Mathlib.Omega.{arith}
 use mathlib.Core.Bool.{Bool, true}
 use mathlib.Core.List.{List, [], _∷_}
-use lib.ListN.{length, getD, drop}
+use lib.ListN.{length, getD, take, drop, replicate}
 use Rattle.lower.specs.declared.Sizes.{Sizes}
 use Rattle.lower.specs.Model.{System, defines}
-use Rattle.lower.specs.Accepted.{Once, NoCircle}
+use Rattle.lower.specs.Accepted.{Once}
 use Rattle.lower.specs.Stores.{Stores, systemOf}
 use Rattle.lower.specs.Faults.{memoryFault}
+use Rattle.legraph.specs.Tables.{numbered}
 use Rattle.legraph.specs.Uses.{rhsOf}
+use Rattle.legraph.specs.Walked.{rhsIn}
 use Rattle.legraph.proofs.Listing.{found-at, found-by}
 use Rattle.legraph.proofs.Theorem.{count, dst-same, small}
 use Rattle.reach.specs.Alive.{AliveIn}
 use Rattle.reach.specs.Reach.{ReachIn}
-use Rattle.reach.specs.Steps.{Filled}
+use Rattle.reach.specs.Steps.{Filled, Order}
 use Rattle.reach.proofs.Meeting.{defines-by}
 use Rattle.reach.proofs.Reaching.{reach-only}
+use Rattle.reach.proofs.Ordered.{straight-by}
 
 -- stores of one length that agree in the first n numbers, and from there on
 same-stores : (n : ℕ) (a b : List ℕ) → length a ≡ length b → ((d : ℕ) → d < n → getD a d 0 ≡ getD b d 0) → drop n a ≡ drop n b → a ≡ b
@@ -34,7 +37,8 @@ filled-same n before a b f g h = same-stores n a b (f .long ∙ sym (g .long)) h
 pub alive-once : (p : System) (c : ℕ → Bool) (n : ℕ) (dsts before a b : List ℕ) → AliveIn p c n dsts a → Filled n before a → AliveIn p c n dsts b → Filled n before b → a ≡ b
 alive-once p c n dsts before a b i f j g = filled-same n before a b f g (λ d l. i d l ∙ sym (j d l))
 
-module _ (z : Sizes) (s : Stores) (e : memoryFault 8192 z s ≡ 0) (once : Once (systemOf z s .linears)) (no-circle : NoCircle (systemOf z s)) (c : ℕ → Bool) where
+module _ (z : Sizes) (s : Stores) (e : memoryFault 8192 z s ≡ 0) (once : Once (systemOf z s .linears)) (c : ℕ → Bool)
+    (ds : List ℕ) (o : Order (rhsIn (s .old) (s .new) (s .rhss)) (numbered 0 (take (z .linears) (s .dsts)) (replicate 4096 0)) (z .linears) ds) where
   abbrev p : System
   p = systemOf z s
 
@@ -47,4 +51,4 @@ module _ (z : Sizes) (s : Stores) (e : memoryFault 8192 z s ≡ 0) (once : Once 
   pub reach-once : (before a b : List ℕ) → ReachIn p c (z .linears) (s .dsts) a → Filled (z .linears) before a → ReachIn p c (z .linears) (s .dsts) b → Filled (z .linears) before b → a ≡ b
   reach-once before a b i f j g =
       filled-same (z .linears) before a b f g
-      (λ d l. i .stands-in d l ∙ reach-only p c once no-circle (i .reach) (j .reach) (i .is-reach) (j .is-reach) (getD (s .dsts) d 0) (stand-defined d l) ∙ sym (j .stands-in d l))
+      (λ d l. i .stands-in d l ∙ reach-only p c once (straight-by z s e once ds o) (i .reach) (j .reach) (i .is-reach) (j .is-reach) (getD (s .dsts) d 0) (stand-defined d l) ∙ sym (j .stands-in d l))
