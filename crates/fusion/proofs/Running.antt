@@ -1,5 +1,5 @@
 -- From what the walk and the decisions leave to what fusing answers. Assumes nothing.
-use mathlib.Core.Path.{_≡_, refl, sym, ap, _∙_}
+use mathlib.Core.Path.{_≡_, refl, sym, ap, _∙_, subst}
 use Prim.Native.Nat.{ℕ, _≤_, _<_}
 use native.Mathlib.Omega.{arith}
 use mathlib.Core.Bool.{Bool, true, false, not, _||_, _&&_}
@@ -14,14 +14,17 @@ use Rattle.lower.specs.Stores.{Stores, systemOf}
 use Rattle.lower.specs.Faults.{memoryFault}
 use Rattle.lower.proofs.Checks.{memory-definitions}
 use Rattle.legraph.specs.declared.Walk.{Walk}
+use Rattle.legraph.specs.Orders.{Posted}
 use Rattle.legraph.specs.Tables.{numbered}
 use Rattle.legraph.specs.Walked.{Walked, walkOf, rhsIn}
+use Rattle.legraph.proofs.Theorem.{count, small, rhs-same, table-made}
 use Rattle.commit_set.specs.Numbers.{stateAt}
 use Rattle.commit_set.specs.Orders.{InOrder}
 use Rattle.commit_set.specs.Answer.{decisionFault, Solution}
-use Rattle.commit_set.proofs.Answers.{memory-none, once, slots-few, outcome}
+use Rattle.commit_set.proofs.Ordering.{in-order}
+use Rattle.commit_set.proofs.Answers.{memory-none, once, slots-few}
 use Rattle.commit_set.proofs.Theorem.{decided-accepted}
-use Rattle.reach.proofs.Ordered.{walk-orders}
+use Rattle.reach.proofs.Ordered.{straight-by, walk-orders}
 use Rattle.patch.specs.declared.Cursor.{Cursor}
 use Rattle.patch.specs.Patch.{termsWritten}
 use Rattle.fusion.specs.declared.Counts.{Counts}
@@ -44,20 +47,34 @@ module _ (slots : ℕ) (z : Sizes) (s : Stores) (f : decisionFault slots z s ≡
   pub ordered : (c : Walk) (table order : List ℕ) → table ≡ made → c .left ≡ walked .left → c .circle ≡ walked .circle → order ≡ walked .order → length order ≡ 1024
       → c .circle ≡ false → Ordered z s table order (c .left)
   ordered c table order t l b o n h =
-      let r = outcome slots z s f c order l b o in
-      let w = walk-orders z s (memory-none slots z s f) (once slots z s f) (r .none h) (replicate 1024 0) (omega (arith, length-replicate {A = ℕ} 1024 0)) (c .left) order l o in
-      record { table-is = t; named = w .0; used = r .ordered h; within = w .1; few = omega (arith, n) }
+      let w = walk-orders z s (memory-none slots z s f) (replicate 1024 0) (once slots z s f) (omega (arith, length-replicate {A = ℕ} 1024 0)) (sym b ∙ h) (c .left) order l o in
+      record { table-is = t; named = w .0; within = w .1; few = omega (arith, n) }
 
-  -- n is the length of the store of decisions
-  pub decide-asks : (table order : List ℕ) (left n : ℕ) → Ordered z s table order left → n ≡ 1024
-      → (memoryFault 8192 z s ≡ 0)
-      × (Once (systemOf z s .linears) × ((table ≡ made) × (InOrder (systemOf z s) (λ d. false) (drop left order) × (((d : ℕ) → List·Memᴰ d (drop left order) → d < z .linears) × (length order < 65536) × (z .linears ≤ n)))))
-  decide-asks table order left n k q =
-      (memory-none slots z s f, (once slots z s f, (k .table-is, (k .used, (k .named .only, k .few, omega (arith, memory-definitions 8192 z s (memory-none slots z s f), q))))))
+  module _ (table order : List ℕ) (left : ℕ) (k : Ordered z s table order left) where
+    in-turn : InOrder (systemOf z s) (λ d. false) (drop left order)
+    in-turn =
+        let e = memory-none slots z s f in
+        in-order (systemOf z s) 4096 (once slots z s f) (small z s e) (rhsIn (s .old) (s .new) (s .rhss)) (rhs-same z s e) (drop left order)
+        (subst (λ (t : List ℕ). Posted (rhsIn (s .old) (s .new) (s .rhss)) t (drop left order)) (table-made z s e) (k .named .posted))
+        (λ d l. k .named .whole d (omega (arith, l, count z s e))) (λ d m. omega (arith, k .named .only d m, count z s e))
+
+    -- n is the length of the store of decisions
+    pub decide-asks : (n : ℕ) → n ≡ 1024
+        → (memoryFault 8192 z s ≡ 0)
+        × (Once (systemOf z s .linears) × ((table ≡ made) × (InOrder (systemOf z s) (λ d. false) (drop left order) × (((d : ℕ) → List·Memᴰ d (drop left order) → d < z .linears) × (length order < 65536) × (z .linears ≤ n)))))
+    decide-asks n q =
+        (memory-none slots z s f, (once slots z s f, (k .table-is, (in-turn, (k .named .only, k .few, omega (arith, memory-definitions 8192 z s (memory-none slots z s f), q))))))
+
+    no-circle : NoCircle (systemOf z s)
+    no-circle = straight-by z s (memory-none slots z s f) (once slots z s f) (drop left order) (k .named)
 
 -- ---- what is decided
 
-module _ (slots : ℕ) (z : Sizes) (l : Lent) (f : decisionFault slots z (input l) ≡ 0) (none : NoCircle (fused z l)) (ds ds′ : List ℕ) (y : Solution slots (fused z l) ds ds′) where
+module _ (slots : ℕ) (z : Sizes) (l : Lent) (f : decisionFault slots z (input l) ≡ 0) (table order : List ℕ) (left : ℕ) (k : Ordered z (input l) table order left)
+    (ds ds′ : List ℕ) (y : Solution slots (fused z l) ds ds′) where
+  none : NoCircle (fused z l)
+  none = no-circle slots z (input l) f table order left k
+
   pub ready : length ds ≡ 1024 → Ready z (input l) ds′
   ready n = record {
     slots = slots;

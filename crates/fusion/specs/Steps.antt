@@ -25,7 +25,6 @@ use Rattle.lower.specs.Accepted.{NoCircle}
 use Rattle.lower.specs.Stores.{Stores, systemOf}
 use Rattle.legraph.specs.Tables.{numbered}
 use Rattle.legraph.specs.Walked.{rhsIn}
-use Rattle.commit_set.specs.Orders.{InOrder}
 use Rattle.commit_set.specs.Decision.{Solves}
 use Rattle.commit_set.specs.Numbers.{stateAt}
 use Rattle.commit_set.specs.Answer.{ROOM, decisionFault}
@@ -49,7 +48,6 @@ pub record Ready (z : Sizes) (s : Stores) (decisions : List ℕ) : Type 0 where
 pub record Ordered (z : Sizes) (s : Stores) (table order : List ℕ) (left : ℕ) : Type 0 where
   pub table-is : table ≡ numbered 0 (take (z .linears) (s .dsts)) (replicate 4096 0)
   pub named : Order (rhsIn (s .old) (s .new) (s .rhss)) (numbered 0 (take (z .linears) (s .dsts)) (replicate 4096 0)) (z .linears) (drop left order)
-  pub used : InOrder (systemOf z s) (λ d. false) (drop left order)
   pub within : left ≤ length order
   pub few : length order < 65536
 

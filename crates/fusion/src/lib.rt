@@ -5,7 +5,6 @@ ghost use mathlib.Core.List.{[], _++_};
 ghost use Prim.Native.Nat.{_+_, _≤_};
 ghost use lib.ListN.{length, take, drop, replicate};
 ghost use lib.Seq.{sets};
-ghost use Rattle.lower.specs.Accepted.{NoCircle};
 ghost use Rattle.lower.specs.Stores.{stores, systemOf};
 ghost use Rattle.legraph.specs.Tables.{numbered};
 ghost use Rattle.commit_set.specs.Answer.{decisionFault};
@@ -315,7 +314,6 @@ fn fuse_in_order(
     slots: u8,
 ) -> Fused
     requires { ⌜ decisionFault slots z (stores (now old) [] (now ands) (now imuls) (now bmuls) (now zeros) (now dsts) (now rhss)) ≡ 0 ⌝ }
-    requires { ⌜ NoCircle (systemOf z (stores (now old) [] (now ands) (now imuls) (now bmuls) (now zeros) (now dsts) (now rhss))) ⌝ }
     requires { ⌜ Ordered z (stores (now old) [] (now ands) (now imuls) (now bmuls) (now zeros) (now dsts) (now rhss)) (now table) (now order) left ⌝ }
     ensures { λ r. ⌜ Fuses slots z (lent (now (old .entry)) (now (new .entry)) (now (ands .entry)) (now (imuls .entry)) (now (bmuls .entry)) (now (zeros .entry)) (now (dsts .entry)) (now (rhss .entry)) (now (flags .entry))) (lent (now (old .exit)) (now (new .exit)) (now (ands .exit)) (now (imuls .exit)) (now (bmuls .exit)) (now (zeros .exit)) (now (dsts .exit)) (now (rhss .exit)) (now (flags .exit))) (toldFused r) ⌝ }
 {

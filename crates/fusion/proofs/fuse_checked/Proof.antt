@@ -52,9 +52,7 @@ slice-aggregate-fuse-in-order-2 c = search needs
 fuse-in-order-requires : tie.Need-fuse-in-order-requires
 fuse-in-order-requires c κs = let s = c .before .before .before .before .before .before .before .before .before .before .before .before .before .before .before .before .before .before .before .before .before .before .before .before .before .before .before .before in let w = c .before .before .before .before .before .before .before .before .before .before .before .before .before .order-definitions .ensures in
     let l : Lent = lent (s .args .old .now) (s .args .new .now) (s .args .ands .now) (s .args .imuls .now) (s .args .bmuls .now) (s .args .zeros .now) (s .args .dsts .now) (s .args .rhss .now) (s .args .flags .now) in
-    let live = c .before .before .before .before .before .before .before .before .before .before .if1 .left in
-    let r = outcome (s .args .slots) (s .args .z) (input l) (s .pre) (c .before .before .before .before .before .before .before .before .before .before .before .before .before .order-definitions .result) _ (w .1 .0) (w .1 .1 .0) (w .1 .1 .1) in
-    (s .pre, (r .none live, ordered (s .args .slots) (s .args .z) (input l) (s .pre) (c .before .before .before .before .before .before .before .before .before .before .before .before .before .order-definitions .result) _ _ (w .0) (w .1 .0) (w .1 .1 .0) (w .1 .1 .1) (c .before .before .before .before .before .before .before .before .before .before .before .before .before .order-definitions .kept .1 .1 .1 .1 .1 .1 .0 ∙ length-replicate {A = ℕ} 1024 0) live))
+    (s .pre, ordered (s .args .slots) (s .args .z) (input l) (s .pre) (c .before .before .before .before .before .before .before .before .before .before .before .before .before .order-definitions .result) _ _ (w .0) (w .1 .0) (w .1 .1 .0) (w .1 .1 .1) (c .before .before .before .before .before .before .before .before .before .before .before .before .before .order-definitions .kept .1 .1 .1 .1 .1 .1 .0 ∙ length-replicate {A = ℕ} 1024 0) (c .before .before .before .before .before .before .before .before .before .before .if1 .left))
 
 same-length-3 : tie.Need-same-length-3
 same-length-3 c = search needs

@@ -22,7 +22,7 @@ slice-aggregate-decide-in-order c = search needs
 decide-in-order-requires : tie.Need-decide-in-order-requires
 decide-in-order-requires c κs = let s = c .before .before .before .before .before .before .before .before .before .before .before .before .before .before .before .before .before .before .before in
     let l : Lent = lent (s .args .old .now) (s .args .new .now) (s .args .ands .now) (s .args .imuls .now) (s .args .bmuls .now) (s .args .zeros .now) (s .args .dsts .now) (s .args .rhss .now) (s .args .flags .now) in
-    decide-asks (s .args .slots) (s .args .z) (input l) (s .pre .0) _ _ _ _ (s .pre .1 .1) (length-replicate {A = ℕ} 1024 0)
+    decide-asks (s .args .slots) (s .args .z) (input l) (s .pre .0) _ _ _ (s .pre .1) _ (length-replicate {A = ℕ} 1024 0)
 
 slice-aggregate-patch-decided : tie.Need-slice-aggregate-patch-decided
 slice-aggregate-patch-decided c = search needs
@@ -30,7 +30,7 @@ slice-aggregate-patch-decided c = search needs
 patch-decided-requires : tie.Need-patch-decided-requires
 patch-decided-requires c κs = let s = c .before .before .before .before .before .before .before .before .before .before .before .before .before .before .before .before .before .before .before .before .before .before .before .before .before .before .before .before .before .before in
     let l : Lent = lent (s .args .old .now) (s .args .new .now) (s .args .ands .now) (s .args .imuls .now) (s .args .bmuls .now) (s .args .zeros .now) (s .args .dsts .now) (s .args .rhss .now) (s .args .flags .now) in
-    (ready (s .args .slots) (s .args .z) l (s .pre .0) (s .pre .1 .0) _ _ (c .before .before .before .before .before .before .before .before .before .before .decide-in-order .ensures) (length-replicate {A = ℕ} 1024 0), s .pre .1 .1)
+    (ready (s .args .slots) (s .args .z) l (s .pre .0) _ _ _ (s .pre .1) _ _ (c .before .before .before .before .before .before .before .before .before .before .decide-in-order .ensures) (length-replicate {A = ℕ} 1024 0), s .pre .1)
 
 same-length : tie.Need-same-length
 same-length c = search needs
@@ -59,7 +59,7 @@ same-length-8 c = search needs
 returns : tie.Need-returns
 returns c = let s = c .before .before .before .before .before .before .before .before .before .before .before .before .before .before .before .before .before .before .before .before .before .before .before .before .before .before .before .before .before .before .before .before .before .before .before .before .before .before .before .before .before .before .before .before .before .before .before in
     let l : Lent = lent (s .args .old .now) (s .args .new .now) (s .args .ands .now) (s .args .imuls .now) (s .args .bmuls .now) (s .args .zeros .now) (s .args .dsts .now) (s .args .rhss .now) (s .args .flags .now) in
-    done-answer (s .args .slots) (s .args .z) l (s .pre .0) (s .pre .1 .0) _ _ (c .before .before .before .before .before .before .before .before .before .before .before .before .before .before .before .before .before .before .before .before .before .before .before .before .before .before .before .decide-in-order .ensures) _ _ (c .before .before .before .before .before .before .before .before .before .before .before .before .before .before .before .before .patch-decided .ensures)
+    done-answer (s .args .slots) (s .args .z) l (s .pre .0) _ _ _ (s .pre .1) _ _ (c .before .before .before .before .before .before .before .before .before .before .before .before .before .before .before .before .before .before .before .before .before .before .before .before .before .before .before .decide-in-order .ensures) _ _ (c .before .before .before .before .before .before .before .before .before .before .before .before .before .before .before .before .patch-decided .ensures)
 
 pub fuse-in-order-spec : {M : Type 1} → statement M
 fuse-in-order-spec =
