@@ -57,7 +57,7 @@ module _ (z : Sizes) (s : Stores) (decisions : List ℕ) (r : Ready z s decision
   there = placed z s (checked z s (memory-places 8192 z s memory))
 
   -- alive and reach are the lengths of the stores of masks
-  pub masks-asks : (table order : List ℕ) (left alive reach : ℕ) → Ordered z s table order left → alive ≡ 10240 → reach ≡ 1024
+  pub masks-asks : (table order : List ℕ) (left alive reach : ℕ) → Ordered z s table order left → alive ≡ 18432 → reach ≡ 1024
       → (memoryFault 8192 z s ≡ 0)
       × (Once (p .linears) × (Single p × (Order (rhsIn (s .old) (s .new) (s .rhss)) (numbered 0 (take (z .linears) (s .dsts)) (replicate 4096 0)) (z .linears) (drop left order) × ((left ≤ length order) × (z .linears ≤ length decisions) × (z .linears ≤ alive) × (z .linears ≤ reach)))))
   masks-asks table order left alive reach k a b =
@@ -65,9 +65,9 @@ module _ (z : Sizes) (s : Stores) (decisions : List ℕ) (r : Ready z s decision
       (memory, (accepted .once, (accepted .single, (k .named, (k .within, r .long, omega (arith, n, a), omega (arith, n, b))))))
 
   -- alive is the length of the store of masks
-  pub looks-asks : (t : List ℕ) (alive : ℕ) → t ≡ numbered 0 (take (z .linears) (s .dsts)) (replicate 4096 0) → alive ≡ 10240
-      → Lookable (s .old) (s .new) (s .rhss) t (z .linears) × (2048 + sumOf lengthOf (take (z .linears) (s .rhss)) ≤ alive)
-  looks-asks t alive q a = (subst (λ (x : List ℕ). Lookable (s .old) (s .new) (s .rhss) x (z .linears)) (sym (q ∙ table-made z s memory)) (lookable z s memory (accepted .once) (accepted .shifted)), omega (arith, a, looks-room z s memory))
+  pub looks-asks : (t : List ℕ) (alive : ℕ) → t ≡ numbered 0 (take (z .linears) (s .dsts)) (replicate 4096 0) → alive ≡ 18432
+      → Lookable (s .old) (s .new) (s .rhss) t (z .linears) × ((2048 + 2 * sumOf lengthOf (take (z .linears) (s .rhss)) ≤ alive) × (alive < 65536))
+  looks-asks t alive q a = (subst (λ (x : List ℕ). Lookable (s .old) (s .new) (s .rhss) x (z .linears)) (sym (q ∙ table-made z s memory)) (lookable z s memory (accepted .once) (accepted .shifted)), (omega (arith, a, looks-room z s memory), omega (arith, a)))
 
   -- the masks of the definitions stand before those of the terms
   pub mask-first : (d : ℕ) → d < z .linears → d < 1024

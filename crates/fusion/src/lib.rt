@@ -167,8 +167,8 @@ fn apply_patches(
     count_all(z, l, count)
 }
 
-// One mask a definition, one place a definition where the masks of its terms begin, and one mask a term.
-const MAX_MASKS: usize = 10240;
+// One mask a definition, one place a definition where the masks of its terms begin, and a mask and an entry a term.
+const MAX_MASKS: usize = 18432;
 
 // The masks of the definitions and of their terms, and with them all operands that are rebuilt.
 fn rebuild(

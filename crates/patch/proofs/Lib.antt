@@ -9,6 +9,7 @@ pub mod Writing
 pub mod Spells
 pub mod Passing
 pub mod Folds
+pub mod Entries
 pub mod Looking
 pub mod Lookables
 pub mod Unique

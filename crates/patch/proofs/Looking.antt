@@ -1,6 +1,6 @@
--- The masks of terms, written one after the other behind the masks of the definitions. Assumes nothing.
+-- The masks and the entries of terms, written one after the other behind the masks of the definitions. Assumes nothing.
 use mathlib.Core.Path.{_≡_, refl, sym, ap, _∙_, subst}
-use Prim.Native.Nat.{ℕ, zero, suc, _+_, _-_, _≤_, _<_}
+use Prim.Native.Nat.{ℕ, zero, suc, _+_, _-_, _*_, _/_, _%_, _≤_, _<_}
 use mathlib.Core.Bool.{Bool, true, false, cond}
 use mathlib.Core.List.{List}
 use native.Mathlib.Decide.{decLt}
@@ -17,7 +17,7 @@ use Rattle.lower.specs.Stores.{Stands}
 use Rattle.lower.proofs.Alls.{all-unmap}
 use Rattle.lower.proofs.Firsts.{part-step}
 use Rattle.patch.proofs.Spells.{operand-terms}
-use Rattle.patch.specs.Spelling.{source, inlinedNumber, lookBy, look, Looks, Looked}
+use Rattle.patch.specs.Spelling.{source, inlinedNumber, lookBy, look, laid, Looks, Looked, Listed, Entries}
 
 -- ---- a look
 
@@ -63,9 +63,32 @@ module _ (table decisions before ts : List ℕ) (at : ℕ) (nodes : (w : ℕ) �
     ];
   }
 
--- the terms and how many they are, told otherwise
-pub looked-by : (table decisions before after ts ts′ : List ℕ) (at n : ℕ) → ts ≡ ts′ → length ts ≡ n → Looked table decisions before after ts at (length ts) → Looked table decisions before after ts′ at n
-looked-by table decisions before after ts ts′ at n e k l = subst (Looked table decisions before after ts′ at) k (subst (λ (x : List ℕ). Looked table decisions before after x at (length ts)) e l)
+module _ (table decisions before ts : List ℕ) (at : ℕ) where
+  pub listed-none : Listed table decisions before before ts at 0
+  listed-none = record { long = refl; kept = λ j h. refl; made = λ j h. absurd (omega arith) }
+
+  pub listed-more : (after : List ℕ) (i m : ℕ) → Listed table decisions before after ts at i → at + i < length after → m ≡ laid table decisions (termOf (getD ts i 0))
+      → Listed table decisions before (set after (at + i) m) ts at (i + 1)
+  listed-more after i m l h e = record {
+    long = length-set after (at + i) m ∙ l .long;
+    kept = λ j k. getD-set-other after (at + i) j m 0 (λ z. omega (arith, z)) ∙ l .kept j k;
+    made = λ j k. elim (decLt j i) [
+      | yes p ↦ getD-set-other after (at + i) (at + j) m 0 (λ z. omega (arith, z)) ∙ l .made j p
+      | no p ↦ let z : i ≡ j = omega arith in
+          subst (λ (x : ℕ). getD (set after (at + i) m) (at + x) 0 ≡ laid table decisions (termOf (getD ts x 0))) z (getD-set-same after (at + i) m 0 h ∙ e)
+    ];
+  }
+
+-- the one behind the other; the terms and how many they are, told otherwise
+pub entries-by : (table decisions before mid after ts ts′ : List ℕ) (at n : ℕ) → ts ≡ ts′ → length ts ≡ n
+    → Looked table decisions before mid ts at (length ts) → Listed table decisions mid after ts (at + length ts) (length ts) → Entries table decisions before after ts′ at n
+entries-by table decisions before mid after ts ts′ at n e k l m =
+    subst (Entries table decisions before after ts′ at) k (subst (λ (x : List ℕ). Entries table decisions before after x at (length ts)) e (record {
+      long = m .long ∙ l .long;
+      kept = λ j h. m .kept j (omega arith) ∙ l .kept j h;
+      looked = λ j h. m .kept (at + j) (omega arith) ∙ l .made j h;
+      listed = m .made;
+    }))
 
 module _ (old new : List ℕ) (h : ℕ) (stands : Stands old new h) where
   pub terms-length : length (termsAt old new (operandAt h)) ≡ lengthOf h
@@ -76,11 +99,14 @@ module _ (old new : List ℕ) (h : ℕ) (stands : Stands old new h) where
 
 -- ---- the definitions
 
--- the masks of the definition e are laid down, and end at `at` at the latest
+-- the masks and the entries of the definition e are laid down, and end at `at` at the latest
 pub record Laid (table decisions before after ts : List ℕ) (at e : ℕ) : Type 0 where
-  pub first : 2048 ≤ getD after (1024 + e) 0
-  pub last : getD after (1024 + e) 0 + length ts ≤ at
-  pub masks-there : (j : ℕ) → j < length ts → getD after (getD after (1024 + e) 0 + j) 0 ≡ look table decisions before (termOf (getD ts j 0))
+  pub from : ℕ
+  pub told : getD after (1024 + e) 0 ≡ from + 65536 * length ts
+  pub first : 2048 ≤ from
+  pub last : from + 2 * length ts ≤ at
+  pub masks-there : (j : ℕ) → j < length ts → getD after (from + j) 0 ≡ look table decisions before (termOf (getD ts j 0))
+  pub entries-there : (j : ℕ) → j < length ts → getD after (from + length ts + j) 0 ≡ laid table decisions (termOf (getD ts j 0))
 
 module _ (old new rhss table decisions before : List ℕ) where
   abbrev ts : ℕ → List ℕ
@@ -90,64 +116,83 @@ module _ (old new rhss table decisions before : List ℕ) where
     pub as-long : length after ≡ length before
     pub front : (j : ℕ) → j < 1024 → getD after j 0 ≡ getD before j 0
     pub past : 2048 ≤ at
-    pub laid : (e : ℕ) → e < d → Laid table decisions before after (ts e) at e
+    pub laid-down : (e : ℕ) → e < d → Laid table decisions before after (ts e) at e
 
   pub filled-none : Filled before 2048 0
-  filled-none = record { as-long = refl; front = λ j h. refl; past = omega arith; laid = λ e h. absurd (omega arith) }
+  filled-none = record { as-long = refl; front = λ j h. refl; past = omega arith; laid-down = λ e h. absurd (omega arith) }
 
   module _ (nodes : (w : ℕ) → getD table w 0 ≤ 1024) (after after′ : List ℕ) (at d : ℕ) (few : d < 1024) (room : 2048 ≤ length after)
-      (f : Filled after at d) (l : Looked table decisions (set after (1024 + d) at) after′ (ts d) at (length (ts d))) where
-    stays : (j : ℕ) → j < at → (j ≡ 1024 + d → ⊥) → getD after′ j 0 ≡ getD after j 0
-    stays j h n = l .kept j h ∙ getD-set-other after (1024 + d) j at 0 n
+      (f : Filled after at d) (l : Entries table decisions after after′ (ts d) at (length (ts d))) where
+    abbrev cell : ℕ
+    cell = at + 65536 * length (ts d)
 
-    begun : getD after′ (1024 + d) 0 ≡ at
-    begun = l .kept (1024 + d) (omega (arith, f .past)) ∙ getD-set-same after (1024 + d) at 0 (omega arith)
+    abbrev final : List ℕ
+    final = set after′ (1024 + d) cell
 
-    front-kept : (j : ℕ) → j < 1024 → getD after′ j 0 ≡ getD before j 0
+    stays : (j : ℕ) → j < at → (j ≡ 1024 + d → ⊥) → getD final j 0 ≡ getD after j 0
+    stays j h n = getD-set-other after′ (1024 + d) j cell 0 n ∙ l .kept j h
+
+    front-kept : (j : ℕ) → j < 1024 → getD final j 0 ≡ getD before j 0
     front-kept j h = stays j (omega (arith, f .past)) (λ z. omega (arith, z)) ∙ f .front j h
 
-    earlier : (e : ℕ) → e < d → Laid table decisions before after′ (ts e) (at + length (ts d)) e
+    earlier : (e : ℕ) → e < d → Laid table decisions before final (ts e) (at + 2 * length (ts d)) e
     earlier e h =
-        let y = f .laid e h in
-        let s : getD after′ (1024 + e) 0 ≡ getD after (1024 + e) 0 = stays (1024 + e) (omega (arith, f .past)) (λ z. omega (arith, z)) in
+        let y = f .laid-down e h in
         record {
-          first = rw s (y .first);
-          last = rw s (omega (arith, y .last));
-          masks-there = λ j k. rw s (stays (getD after (1024 + e) 0 + j) (omega (arith, y .last)) (λ z. omega (arith, z, y .first)) ∙ y .masks-there j k);
+          from = y .from;
+          told = stays (1024 + e) (omega (arith, f .past)) (λ z. omega (arith, z)) ∙ y .told;
+          first = y .first;
+          last = omega (arith, y .last);
+          masks-there = λ j k. stays (y .from + j) (omega (arith, y .last)) (λ z. omega (arith, z, y .first)) ∙ y .masks-there j k;
+          entries-there = λ j k. stays (y .from + length (ts e) + j) (omega (arith, y .last)) (λ z. omega (arith, z, y .first)) ∙ y .entries-there j k;
         }
 
-    now-laid : Laid table decisions before after′ (ts d) (at + length (ts d)) d
+    now-laid : Laid table decisions before final (ts d) (at + 2 * length (ts d)) d
     now-laid = record {
-      first = rw begun (f .past);
-      last = rw begun (omega arith);
-      masks-there = λ j k. rw begun (l .made j k ∙ look-kept table decisions (set after (1024 + d) at) before nodes (λ x y. getD-set-other after (1024 + d) x at 0 (λ z. omega (arith, z)) ∙ f .front x y) (termOf (getD (ts d) j 0)));
+      from = at;
+      told = getD-set-same after′ (1024 + d) cell 0 (omega (arith, room, l .long));
+      first = f .past;
+      last = omega arith;
+      masks-there = λ j k. getD-set-other after′ (1024 + d) (at + j) cell 0 (λ z. omega (arith, z, f .past)) ∙ l .looked j k ∙ look-kept table decisions after before nodes (f .front) (termOf (getD (ts d) j 0));
+      entries-there = λ j k. getD-set-other after′ (1024 + d) (at + length (ts d) + j) cell 0 (λ z. omega (arith, z, f .past)) ∙ l .listed j k;
     }
 
-    pub filled-more : Filled after′ (at + length (ts d)) (d + 1)
+    pub filled-more : Filled final (at + 2 * length (ts d)) (d + 1)
     filled-more = record {
-      as-long = l .long ∙ length-set after (1024 + d) at ∙ f .as-long;
+      as-long = length-set after′ (1024 + d) cell ∙ l .long ∙ f .as-long;
       front = front-kept;
       past = omega (arith, f .past);
-      laid = λ e h. elim (decLt e d) [ yes p ↦ earlier e p | no p ↦ let z : d ≡ e = omega arith in subst (λ (x : ℕ). Laid table decisions before after′ (ts x) (at + length (ts d)) x) z now-laid ];
+      laid-down = λ e h. elim (decLt e d) [ yes p ↦ earlier e p | no p ↦ let z : d ≡ e = omega arith in subst (λ (x : ℕ). Laid table decisions before final (ts x) (at + 2 * length (ts d)) x) z now-laid ];
     }
 
   -- the same, by the number of the right side
-  pub filled-step : ((w : ℕ) → getD table w 0 ≤ 1024) → (after after′ : List ℕ) (at d r : ℕ) → d < 1024 → 2048 ≤ length after → Stands old new (getD rhss d 0) → Filled after at d
-      → Looked table decisions (set after (1024 + d) at) after′ (ts d) at (lengthOf (getD rhss d 0)) → r ≡ at + lengthOf (getD rhss d 0) → Filled after′ r (d + 1)
-  filled-step nodes after after′ at d r few room st f l e =
+  pub filled-step : ((w : ℕ) → getD table w 0 ≤ 1024) → (after after′ : List ℕ) (at d m : ℕ) → d < 1024 → 2048 ≤ length after → Stands old new (getD rhss d 0) → Filled after at d
+      → Entries table decisions after after′ (ts d) at (lengthOf (getD rhss d 0)) → m ≡ lengthOf (getD rhss d 0) → Filled (set after′ (1024 + d) (at + 65536 * m)) (at + 2 * m) (d + 1)
+  filled-step nodes after after′ at d m few room st f l e =
       let k = terms-length old new (getD rhss d 0) st in
-      subst (λ (x : ℕ). Filled after′ x (d + 1)) (ap (λ (x : ℕ). at + x) k ∙ sym e)
-      (filled-more nodes after after′ at d few room f (subst (Looked table decisions (set after (1024 + d) at) after′ (ts d) at) (sym k) l))
+      subst (λ (x : ℕ). Filled (set after′ (1024 + d) (at + 65536 * x)) (at + 2 * x) (d + 1)) (k ∙ sym e)
+      (filled-more nodes after after′ at d few room f (subst (Entries table decisions after after′ (ts d) at) (sym k) l))
 
   -- what is laid down is what expansion reads
-  pub filled-looks : ((w : ℕ) → getD table w 0 ≤ 1024) → (after : List ℕ) (at n : ℕ) → Filled after at n → n ≤ 1024 → at ≤ length after → (d : ℕ) → d < n → Looks (source old new rhss table decisions after) d
-  filled-looks nodes after at n f few h d k =
-      let y = f .laid d k in
-      record {
-        begins = omega (arith, f .past);
-        ends = omega (arith, y .last);
-        masks = λ i q. y .masks-there i q ∙ sym (look-kept table decisions after before nodes (f .front) (termOf (getD (ts d) i 0)));
-      }
+  module _ (nodes : (w : ℕ) → getD table w 0 ≤ 1024) (after : List ℕ) (at n : ℕ) (f : Filled after at n) (few : n ≤ 1024) (room : at ≤ length after) (low : length after < 65536)
+      (d : ℕ) (k : d < n) where
+    abbrev y : Laid table decisions before after (ts d) at d
+    y = f .laid-down d k
+
+    from-read : getD after (1024 + d) 0 % 65536 ≡ y .from
+    from-read = omega (arith, y .told, y .last)
+
+    count-read : getD after (1024 + d) 0 / 65536 ≡ length (ts d)
+    count-read = omega (arith, y .told, y .last)
+
+    pub filled-looks : Looks (source old new rhss table decisions after) d
+    filled-looks = record {
+      begins = omega (arith, f .past);
+      as-many = count-read;
+      ends = omega (arith, y .last, from-read);
+      masks = λ i q. ap (λ (x : ℕ). getD after (x + i) 0) from-read ∙ y .masks-there i q ∙ sym (look-kept table decisions after before nodes (f .front) (termOf (getD (ts d) i 0)));
+      entries = λ i q. ap (λ (x : ℕ). getD after (x + length (ts d) + i) 0) from-read ∙ y .entries-there i q;
+    }
 
 -- the room that the definitions which are left need
 pub room-step : (l : List ℕ) (n d : ℕ) → d < n → n ≤ length l → sumOf lengthOf (drop d (take n l)) ≡ lengthOf (getD l d 0) + sumOf lengthOf (drop (d + 1) (take n l))

@@ -8,8 +8,7 @@ use native.Mathlib.Omega.{arith}
 use native.Mathlib.Decide.{decLt}
 use lib.Dec.{eqb, lit<}
 use lib.Bits.{bitAnd, and-mask, and-comm, and-zero-r}
-use lib.ListN.{length, getD, take, drop, length-drop}
-use lib.Seq.{length-take-le, getD-take, getD-drop}
+use lib.ListN.{length, getD, drop}
 use borrow.Author.Tests.{eq-eqb, ne-eqb, eqb-true, eqb-false}
 use Rattle.shift.specs.declared.Shift.{Shift}
 use Rattle.shift.specs.Shifts.{Valid, validNumber, shiftAt, applyOf}
@@ -19,15 +18,13 @@ use Rattle.operand.specs.declared.PushInner.{PushInner}
 use Rattle.operand.specs.declared.PushInner.the-variants.{Seq, Zero, OverBudget}
 use Rattle.operand.specs.Push.{pushValid}
 use Rattle.operand.specs.Numbers.{Term, termOf}
-use Rattle.lower.specs.Lists.{All}
-use Rattle.legraph.specs.Walked.{rhsIn}
 use Rattle.alive.specs.Masks.{ones, pulled}
 use Rattle.alive.proofs.Pulls.{pulled-lt, pulled-right}
 use Rattle.alive.proofs.Living.{fold-says, seq-alive}
 use Rattle.patch.specs.Expansion.{under, Within}
 use Rattle.patch.specs.Steps.{Written, writeDown}
-use Rattle.patch.specs.Spelling.{Source, inPlace, inlinedNumber, spellUnder, spell, Sees, lookBy, look, termsIn, looksFrom, Opens}
-use Rattle.patch.proofs.Spells.{place-some, spell-dead, under-step, term-read}
+use Rattle.patch.specs.Spelling.{Source, inPlace, inlinedNumber, spellUnder, spell, Sees, lookBy, look}
+use Rattle.patch.proofs.Spells.{place-some, spell-dead, under-step}
 
 -- ---- masks
 
@@ -123,33 +120,3 @@ module _ (s : Source) (small : (e : ℕ) → getD (s .alive) e 0 < 2 ^ 64) (n k 
       ∙ passed-all ts v deep more (j + 1) (omega arith) (λ l a b. f l (omega arith) (omega arith)) m
       ∙ ap (spellUnder (spell s n) i o (map termOf (drop (j + 1) ts))) (sym (passed (termOf (getD ts j 0)) (v j (omega arith)) (deep j (omega arith)) (f j (omega arith) (omega arith)) m))
       ∙ sym (under-step (spell s n) i o ts j m (omega arith))
-
--- ---- the terms of a definition, with their masks
-
-module _ (s : Source) (small : (e : ℕ) → getD (s .alive) e 0 < 2 ^ 64) (n k : ℕ) (i o : Shift) (hi : Valid i) (ho : Valid o) (sees : Sees k i o)
-    (d : ℕ) (opens : Opens s d) (deep : All (λ (u : Term). Within (inPlace s) n (u .wire)) (rhsIn (s .old) (s .new) (s .rhss) d))
-    (ts ms : List ℕ) (e : ts ≡ termsIn s d) (q : ms ≡ take (length ts) (drop (looksFrom s d) (s .alive))) where
-  same : length ts ≡ length (termsIn s d)
-  same = ap length e
-
-  pub masks-length : length ms ≡ length ts
-  masks-length = ap length q ∙ length-take-le (length ts) (drop (looksFrom s d) (s .alive)) (rw (length-drop (looksFrom s d) (s .alive)) (omega (arith, opens .looks .ends, same)))
-
-  pub mask-at : (j : ℕ) → j < length ts → getD ms j 0 ≡ look (s .table) (s .decisions) (s .alive) (termOf (getD ts j 0))
-  mask-at j h =
-      ap (λ (l : List ℕ). getD l j 0) q
-      ∙ getD-take (length ts) (drop (looksFrom s d) (s .alive)) j 0 h
-      ∙ getD-drop (looksFrom s d) (s .alive) j 0
-      ∙ opens .looks .masks j (omega (arith, h, same))
-      ∙ ap (λ (l : List ℕ). look (s .table) (s .decisions) (s .alive) (termOf (getD l j 0))) (sym e)
-
-  pub passed-to : (from r : ℕ) → from ≤ r → r ≤ length ms → ((j : ℕ) → from ≤ j → j < r → bitAnd (getD ms j 0) k ≡ 0) → (m : Written)
-      → spellUnder (spell s n) i o (map termOf (drop r ts)) m ≡ spellUnder (spell s n) i o (map termOf (drop from ts)) m
-  passed-to from r a b f m =
-      let z : r ≡ from + (r - from) = omega arith in
-      ap (λ (x : ℕ). spellUnder (spell s n) i o (map termOf (drop x ts)) m) z
-      ∙ passed-all s small n k i o hi ho sees ts
-      (λ j h. term-read (λ (u : Term). validNumber (u .inner) ≡ true) (s .old) (s .new) (s .rhss) ts d j e (opens .shifts) h)
-      (λ j h. term-read (λ (u : Term). Within (inPlace s) n (u .wire)) (s .old) (s .new) (s .rhss) ts d j e deep h)
-      (r - from) from (omega (arith, b, masks-length))
-      (λ l x y. sym (ap (λ (w : ℕ). bitAnd w k) (mask-at l (omega (arith, y, b, masks-length)))) ∙ f l x (omega (arith, y))) m

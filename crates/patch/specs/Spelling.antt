@@ -10,12 +10,17 @@
 --   spell              a term expanded and written; spellUnder, the terms of its definition that are left
 --   look .. u          the mask of a term u of a definition: the bits that can be set in its wire, below its shift; all where the wire stands
 --   Sees k i o         the mask k takes in just what gets through the shifts i, then o
---   Looked, Lookable   what writing the masks of terms leaves, and what it asks
---   Looks s d          the store of masks has, from 1024 on, where the masks of the terms of each definition begin, and has them there
+--   laid .. u          the entry of a term u of a definition, one number: its shift and its wire where that stands, else its shift, the
+--                      definition in the wire's place, and a mark
+--   Looked, Listed     what writing the masks of terms leaves, and their entries; Entries, both; Lookable, what they ask
+--   Looks s d          the store of masks has, from 1024 on, where the masks of the terms of each definition begin and how many they are,
+--                      and has them there, and the entries behind them
+--   Opened s d n       what the definition d is opened with, no chain below it longer than n; Openable, of some source with this store
+--   Entered s t e k n  the same of a term of the number t, that has the entry e, and of which the mask k takes in something; Enterable
 --
 -- Assumes nothing.
 use mathlib.Core.Path.{_≡_}
-use Prim.Native.Nat.{ℕ, zero, suc, _+_, _*_, _^_, _≤_, _<_}
+use Prim.Native.Nat.{ℕ, zero, suc, _+_, _*_, _/_, _%_, _^_, _≤_, _<_}
 use mathlib.Core.Bool.{Bool, true, false, cond}
 use mathlib.Core.List.{List, [], _∷_}
 use mathlib.Core.Option.{Option, none, some}
@@ -26,7 +31,7 @@ use Rattle.shift.specs.declared.Shift.{Shift}
 use Rattle.shift.specs.Shifts.{numberOf, validNumber, shiftAt, applyOf}
 use Rattle.operand.specs.declared.PushInner.{PushInner}
 use Rattle.operand.specs.declared.PushInner.the-variants.{Seq, Zero, OverBudget}
-use Rattle.operand.specs.Numbers.{Term, Operand, termOf, operandAt, termsAt}
+use Rattle.operand.specs.Numbers.{Term, Operand, termOf, termNumber, operandAt, termsAt}
 use Rattle.operand.specs.Push.{pushValid}
 use Rattle.alive.specs.Masks.{ones}
 use Rattle.lower.specs.Lists.{All, someOf}
@@ -37,6 +42,7 @@ use Rattle.legraph.specs.Walked.{rhsIn}
 use Rattle.patch.specs.declared.Cursor.{Cursor}
 use Rattle.patch.specs.declared.Folded.{Folded}
 use Rattle.patch.specs.declared.Folded.the-variants.{Under, Nothing}
+use Rattle.patch.specs.Expansion.{Within}
 use Rattle.patch.specs.Steps.{Written, wrote, put, writeDown}
 
 -- the stores that expansion reads
@@ -122,22 +128,48 @@ lookBy alive u (suc d) = applyOf (shiftAt (u .inner)) (getD alive d 0)
 unfoldable pub look : (table decisions alive : List ℕ) → Term → ℕ
 look table decisions alive u = lookBy alive u (inlinedNumber decisions (getD table (u .wire) 0))
 
+-- so with the entry; a definition stands where the wire would, and 1 for the outer shift, which a term of a definition has not
+abbrev pub laidBy : Term → ℕ → ℕ
+laidBy u zero = termNumber (record { wire = u .wire; inner = u .inner; outer = 0 })
+laidBy u (suc d) = termNumber (record { wire = d; inner = u .inner; outer = 1 })
+
+unfoldable pub laid : (table decisions : List ℕ) → Term → ℕ
+laid table decisions u = laidBy u (inlinedNumber decisions (getD table (u .wire) 0))
+
 abbrev pub termsIn : Source → ℕ → List ℕ
 termsIn s d = termsAt (s .old) (s .new) (operandAt (getD (s .rhss) d 0))
 
 abbrev pub looksFrom : Source → ℕ → ℕ
-looksFrom s d = getD (s .alive) (1024 + d) 0
+looksFrom s d = getD (s .alive) (1024 + d) 0 % 65536
+
+abbrev pub looksCount : Source → ℕ → ℕ
+looksCount s d = getD (s .alive) (1024 + d) 0 / 65536
 
 pub record Looks (s : Source) (d : ℕ) : Type 0 where
   pub begins : 1024 + d < length (s .alive)
-  pub ends : looksFrom s d + length (termsIn s d) ≤ length (s .alive)
+  pub as-many : looksCount s d ≡ length (termsIn s d)
+  pub ends : looksFrom s d + 2 * length (termsIn s d) ≤ length (s .alive)
   pub masks : (i : ℕ) → i < length (termsIn s d) → getD (s .alive) (looksFrom s d + i) 0 ≡ look (s .table) (s .decisions) (s .alive) (termOf (getD (termsIn s d) i 0))
+  pub entries : (i : ℕ) → i < length (termsIn s d) → getD (s .alive) (looksFrom s d + length (termsIn s d) + i) 0 ≡ laid (s .table) (s .decisions) (termOf (getD (termsIn s d) i 0))
 
 -- the masks of the first n terms of ts are written from `at` on, and what stands before is left
 pub record Looked (table decisions before after ts : List ℕ) (at n : ℕ) : Type 0 where
   pub long : length after ≡ length before
   pub kept : (j : ℕ) → j < at → getD after j 0 ≡ getD before j 0
   pub made : (j : ℕ) → j < n → getD after (at + j) 0 ≡ look table decisions before (termOf (getD ts j 0))
+
+-- so with their entries
+pub record Listed (table decisions before after ts : List ℕ) (at n : ℕ) : Type 0 where
+  pub long : length after ≡ length before
+  pub kept : (j : ℕ) → j < at → getD after j 0 ≡ getD before j 0
+  pub made : (j : ℕ) → j < n → getD after (at + j) 0 ≡ laid table decisions (termOf (getD ts j 0))
+
+-- the masks of n terms are written from `at` on, and their entries behind them
+pub record Entries (table decisions before after ts : List ℕ) (at n : ℕ) : Type 0 where
+  pub long : length after ≡ length before
+  pub kept : (j : ℕ) → j < at → getD after j 0 ≡ getD before j 0
+  pub looked : (j : ℕ) → j < n → getD after (at + j) 0 ≡ look table decisions before (termOf (getD ts j 0))
+  pub listed : (j : ℕ) → j < n → getD after (at + n + j) 0 ≡ laid table decisions (termOf (getD ts j 0))
 
 -- what is asked of n definitions whose terms are looked at; a node is no place of the masks of terms
 pub record Lookable (old new rhss table : List ℕ) (n : ℕ) : Type 0 where
@@ -156,6 +188,33 @@ pub record Opens (s : Source) (d : ℕ) : Type 0 where
 
 abbrev pub Readable : Source → Type 0
 Readable s = (w d : ℕ) → getD (s .table) w 0 ≡ suc d → Opens s d
+
+-- a source with this store of masks
+abbrev pub reading : Source → List ℕ → Source
+reading s store = source (s .old) (s .new) (s .rhss) (s .table) (s .decisions) store
+
+pub record Opened (s : Source) (d below : ℕ) : Type 0 where
+  pub nodes : (w : ℕ) → getD (s .table) w 0 < 65536
+  pub readable : Readable s
+  pub opens : Opens s d
+  pub deep : All (λ (u : Term). Within (inPlace s) below (u .wire)) (rhsIn (s .old) (s .new) (s .rhss) d)
+
+pub record Openable (store : List ℕ) (d below : ℕ) : Type 0 where
+  pub rest : Source
+  pub opened : Opened (reading rest store) d below
+
+pub record Entered (s : Source) (t e k below : ℕ) : Type 0 where
+  pub nodes : (w : ℕ) → getD (s .table) w 0 < 65536
+  pub readable : Readable s
+  pub entry : e ≡ laid (s .table) (s .decisions) (termOf t)
+  pub shift : validNumber (termOf t .inner) ≡ true
+  pub deep : Within (inPlace s) below (termOf t .wire)
+  pub live : bitAnd (look (s .table) (s .decisions) (s .alive) (termOf t)) k ≡ 0 → ⊥
+
+pub record Enterable (store : List ℕ) (e k below : ℕ) : Type 0 where
+  pub rest : Source
+  pub number : ℕ
+  pub entered : Entered (reading rest store) number e k below
 
 -- some term names a defined wire, by the table; so with the operands of a row
 unfoldable pub namesOne : List ℕ → Operand → Bool

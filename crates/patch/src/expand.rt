@@ -1,10 +1,11 @@
 // A term is expanded through its definition's operand, an operand through its terms, until a committed or undefined wire stands.
 // A definition may have thousands of terms that write nothing, and be met thousands of times. So one mask a term is at hand, and one mask
 // is carried down that takes in just what gets through the shifts: a term is passed over by one test. The two shifts are carried down as
-// one number, spelt as in a term with no wire: a term is written by adding its wire.
+// one number, spelt as in a term with no wire: a term is written by adding its wire. Whatever is read of a definition stands in one store:
+// the masks of its terms one after the other, since most are only passed over, and its terms behind them, with what is put in their place.
 ghost use mathlib.Core.Path.{_≡_};
 ghost use mathlib.Core.Bool.{true, false};
-ghost use Prim.Native.Nat.{ℕ, _+_, _-_, _≤_, _<_};
+ghost use Prim.Native.Nat.{ℕ, _+_, _-_, _*_, _≤_, _<_};
 ghost use lib.Dec.{eqb};
 ghost use lib.ListN.{length, getD, take, drop};
 ghost use lib.Bits.{bitAnd};
@@ -20,7 +21,7 @@ ghost use Rattle.legraph.specs.Tables.{toldNode};
 ghost use Rattle.legraph.specs.Walked.{rhsIn};
 ghost use Rattle.patch.specs.Expansion.{Within};
 ghost use Rattle.patch.specs.Steps.{put, writeDown};
-ghost use Rattle.patch.specs.Spelling.{source, inPlace, inlinedNumber, spelt, cursorAt, speltTo, innerOf, outerOf, bare, Over, foldedAs, spellUnder, spell, Sees, look, Looked, Lookable, Looks, Opens, Readable};
+ghost use Rattle.patch.specs.Spelling.{Source, source, inPlace, inlinedNumber, spelt, cursorAt, speltTo, innerOf, outerOf, bare, Over, foldedAs, spellUnder, spell, Sees, look, laid, Looked, Listed, Entries, Lookable, Looks, Readable, reading, Opened, Openable, Entered, Enterable};
 use crate::Cursor;
 use crate::Folded;
 use legraph::Node;
@@ -119,17 +120,16 @@ fn inlined(table: &[u16], decisions: &[u64], wire: Wire) -> Node
     Node::LinDef(d)
 }
 
-// Where the masks of a definition's terms begin stands in the store of masks from here on.
+// Where the masks of a definition's terms begin, and how many they are, stands in the store of masks from here on.
 const LOOKS: usize = lower::MAX_DEFINITIONS;
 
-// The masks of the `n` terms of the definition `d`.
-fn term_masks<'a>(alive: &'a [u64], d: usize, n: usize) -> &'a [u64]
-    requires { ⌜ (1024 + d < length (now alive)) × (getD (now alive) (1024 + d) 0 + n ≤ length (now alive)) ⌝ }
-    ensures { λ r. ⌜ now r ≡ take n (drop (getD (now (alive .entry)) (1024 + d) 0) (now (alive .entry))) ⌝ }
+// The `n` places of a store from `at` on.
+fn part<'a>(store: &'a [u64], at: usize, n: usize) -> &'a [u64]
+    requires { ⌜ at + n ≤ length (now store) ⌝ }
+    ensures { λ r. ⌜ now r ≡ take n (drop at (now (store .entry))) ⌝ }
 {
-    let at = alive[LOOKS + d] as usize;
     let end = at + n;
-    &alive[at..end]
+    &store[at..end]
 }
 
 // The first term from `from` on of which the mask takes in something: most terms are passed over here, so this does little else.
@@ -252,31 +252,14 @@ pub fn expand_term<'a>(
     if is_dead(alive, d, mask) {
         return c;
     }
-    let n = expand_operand(
-        old,
-        new,
-        rhss,
-        table,
-        decisions,
-        alive,
-        &mut *out,
-        c.count,
-        d,
-        shifts(t),
-        mask,
-        below - 1,
-    );
+    let n = expand_operand(alive, &mut *out, c.count, d, shifts(t), mask, below - 1);
     cursor(out.len(), n)
 }
 
-// The terms of the definition `d`, each below the two shifts. What the mask does not take in writes nothing. Of the functions that call
-// each other this alone has two callers: a call, which hands on every slice, is made for each definition that is opened, none for a term.
-fn expand_operand<'a>(
-    old: &'a [u64],
-    new: &'a [u64],
-    rhss: &[u64],
-    table: &[u16],
-    decisions: &[u64],
+// The terms of the definition `d`, each below the two shifts. What the mask does not take in writes nothing. All that is read on the way
+// stands in the store of masks, so nothing is said of the other stores but that it was laid down for some. Of the functions that call each
+// other this alone has two callers: a call is made for each definition that is opened, none for a term.
+fn expand_operand(
     alive: &[u64],
     out: &mut [u64],
     n: usize,
@@ -285,97 +268,56 @@ fn expand_operand<'a>(
     mask: u64,
     below: usize,
 ) -> usize
-    requires { ⌜ Readable (source (now old) (now new) (now rhss) (now table) (now decisions) (now alive)) ⌝ }
-    requires { ⌜ Opens (source (now old) (now new) (now rhss) (now table) (now decisions) (now alive)) (d .0) ⌝ }
-    requires { ⌜ All (λ (u : Term). Within (inPlace (source (now old) (now new) (now rhss) (now table) (now decisions) (now alive))) below (u .wire)) (rhsIn (now old) (now new) (now rhss) (d .0)) ⌝ }
+    requires { ⌜ Openable (now alive) (d .0) below ⌝ }
     requires { ⌜ Over over × (n ≤ length (now out) + 1) ⌝ }
     requires { ⌜ Sees mask (innerOf over) (outerOf over) ⌝ }
-    ensures { λ r. ⌜ (speltTo (now (out .exit)) r ≡ spellUnder (spell (source (now (old .entry)) (now (new .entry)) (now (rhss .entry)) (now (table .entry)) (now (decisions .entry)) (now (alive .entry))) below) (innerOf over) (outerOf over) (rhsIn (now (old .entry)) (now (new .entry)) (now (rhss .entry)) (d .0)) (speltTo (now (out .entry)) n)) × (r ≤ length (now (out .entry)) + 1) ⌝ }
+    ensures { λ r. ⌜ ((s : Source) → Opened (reading s (now (alive .entry))) (d .0) below → speltTo (now (out .exit)) r ≡ spellUnder (spell (reading s (now (alive .entry))) below) (innerOf over) (outerOf over) (rhsIn (s .old) (s .new) (s .rhss) (d .0)) (speltTo (now (out .entry)) n)) × (r ≤ length (now (out .entry)) + 1) ⌝ }
 {
     let i = d.0 as usize;
-    let ts = lower::operand_terms(old, new, rhss[i]);
-    let ms = term_masks(alive, i, ts.len());
+    let w = alive[LOOKS + i];
+    let at = (w % 65536) as usize;
+    let m = (w / 65536) as usize;
+    let ms = part(alive, at, m);
+    let es = part(alive, at + m, m);
     let mut cur = n;
     let mut k = next_live(ms, 0, mask);
-    while k < ts.len() {
-        cur = expand_below(
-            old,
-            new,
-            rhss,
-            table,
-            decisions,
-            alive,
-            &mut *out,
-            cur,
-            ts[k],
-            over,
-            mask,
-            below,
-        );
+    while k < es.len() {
+        cur = expand_below(alive, &mut *out, cur, es[k], over, mask, below);
         k = next_live(ms, k + 1, mask);
     }
     cur
 }
 
-// One term of a definition, its shift folded in as the innermost one. The mask takes in something of it, so a definition in its place is
-// not dead.
-fn expand_below<'a>(
-    old: &'a [u64],
-    new: &'a [u64],
-    rhss: &[u64],
-    table: &[u16],
-    decisions: &[u64],
+// One term of a definition, by its entry, its shift folded in as the innermost one. The mask takes in something of it, so a definition in
+// its place is not dead.
+fn expand_below(
     alive: &[u64],
     out: &mut [u64],
     n: usize,
-    t: u64,
+    e: u64,
     over: u64,
     mask: u64,
     below: usize,
 ) -> usize
-    requires { ⌜ Readable (source (now old) (now new) (now rhss) (now table) (now decisions) (now alive)) ⌝ }
-    requires { ⌜ Within (inPlace (source (now old) (now new) (now rhss) (now table) (now decisions) (now alive))) below (termOf t .wire) ⌝ }
-    requires { ⌜ validNumber (termOf t .inner) ≡ true ⌝ }
+    requires { ⌜ Enterable (now alive) e mask below ⌝ }
     requires { ⌜ Over over × (n ≤ length (now out) + 1) ⌝ }
     requires { ⌜ Sees mask (innerOf over) (outerOf over) ⌝ }
-    requires { ⌜ (bitAnd (look (now table) (now decisions) (now alive) (termOf t)) mask ≡ 0 → ⊥) ⌝ }
-    ensures { λ r. ⌜ (speltTo (now (out .exit)) r ≡ writeDown (spell (source (now (old .entry)) (now (new .entry)) (now (rhss .entry)) (now (table .entry)) (now (decisions .entry)) (now (alive .entry))) below) (termOf t .wire) (pushValid (innerOf over) (outerOf over) (innerOf t) 2) (speltTo (now (out .entry)) n)) × (r ≤ length (now (out .entry)) + 1) ⌝ }
+    ensures { λ r. ⌜ ((s : Source) (t : ℕ) → Entered (reading s (now (alive .entry))) t e mask below → speltTo (now (out .exit)) r ≡ writeDown (spell (reading s (now (alive .entry))) below) (termOf t .wire) (pushValid (innerOf over) (outerOf over) (innerOf t) 2) (speltTo (now (out .entry)) n)) × (r ≤ length (now (out .entry)) + 1) ⌝ }
 {
-    let s = operand::term::inner(t);
+    let s = operand::term::inner(e);
     let f = fold(over, s);
     let Folded::Under(x) = f else {
         return n;
     };
-    let wire = operand::term::wire(t);
-    let node = inlined(table, decisions, wire);
-    let Node::LinDef(d) = node else {
+    let wire = operand::term::wire(e);
+    if e < 4294967296 {
         return put_below(&mut *out, n, x + wire.0 as u64);
-    };
-    expand_at(
-        old,
-        new,
-        rhss,
-        table,
-        decisions,
-        alive,
-        &mut *out,
-        n,
-        d,
-        s,
-        x,
-        mask,
-        below,
-    )
+    }
+    expand_at(alive, &mut *out, n, LinDefId(wire.0), s, x, mask, below)
 }
 
-// The definition `d` in the place of a term with the shift `s`. Apart from `expand_below`, so that slices are handed on here only. Once a
-// term found no room nothing is done.
-fn expand_at<'a>(
-    old: &'a [u64],
-    new: &'a [u64],
-    rhss: &[u64],
-    table: &[u16],
-    decisions: &[u64],
+// The definition `d` in the place of a term with the shift `s`. Once a term found no room nothing is done.
+fn expand_at(
     alive: &[u64],
     out: &mut [u64],
     n: usize,
@@ -385,31 +327,16 @@ fn expand_at<'a>(
     mask: u64,
     below: usize,
 ) -> usize
-    requires { ⌜ Readable (source (now old) (now new) (now rhss) (now table) (now decisions) (now alive)) ⌝ }
-    requires { ⌜ Opens (source (now old) (now new) (now rhss) (now table) (now decisions) (now alive)) (d .0) ⌝ }
-    requires { ⌜ (0 < below) × All (λ (u : Term). Within (inPlace (source (now old) (now new) (now rhss) (now table) (now decisions) (now alive))) (below - 1) (u .wire)) (rhsIn (now old) (now new) (now rhss) (d .0)) ⌝ }
+    requires { ⌜ (0 < below) × Openable (now alive) (d .0) (below - 1) ⌝ }
     requires { ⌜ validNumber s ≡ true ⌝ }
     requires { ⌜ Over over × (n ≤ length (now out) + 1) ⌝ }
     requires { ⌜ Sees (pulled (shiftAt s) mask) (innerOf over) (outerOf over) ⌝ }
-    ensures { λ r. ⌜ (speltTo (now (out .exit)) r ≡ spellUnder (spell (source (now (old .entry)) (now (new .entry)) (now (rhss .entry)) (now (table .entry)) (now (decisions .entry)) (now (alive .entry))) (below - 1)) (innerOf over) (outerOf over) (rhsIn (now (old .entry)) (now (new .entry)) (now (rhss .entry)) (d .0)) (speltTo (now (out .entry)) n)) × (r ≤ length (now (out .entry)) + 1) ⌝ }
+    ensures { λ r. ⌜ ((q : Source) → Opened (reading q (now (alive .entry))) (d .0) (below - 1) → speltTo (now (out .exit)) r ≡ spellUnder (spell (reading q (now (alive .entry))) (below - 1)) (innerOf over) (outerOf over) (rhsIn (q .old) (q .new) (q .rhss) (d .0)) (speltTo (now (out .entry)) n)) × (r ≤ length (now (out .entry)) + 1) ⌝ }
 {
     if out.len() < n {
         return n;
     }
-    expand_operand(
-        old,
-        new,
-        rhss,
-        table,
-        decisions,
-        alive,
-        &mut *out,
-        n,
-        d,
-        over,
-        pull(s, mask),
-        below - 1,
-    )
+    expand_operand(alive, &mut *out, n, d, over, pull(s, mask), below - 1)
 }
 
 // The mask of a term of a definition.
@@ -427,6 +354,19 @@ fn look(table: &[u16], decisions: &[u64], alive: &[u64], t: u64) -> u64
     )
 }
 
+// The entry of a term of a definition: its shift and its wire, or, marked above them, its shift and the definition in the wire's place.
+fn laid(table: &[u16], decisions: &[u64], t: u64) -> u64
+    ensures { λ r. ⌜ r ≡ laid (now (table .entry)) (now (decisions .entry)) (termOf t) ⌝ }
+{
+    let s = 65536 * operand::term::inner(t);
+    let wire = operand::term::wire(t);
+    let node = inlined(table, decisions, wire);
+    let Node::LinDef(d) = node else {
+        return s + wire.0 as u64;
+    };
+    4294967296 + s + d.0 as u64
+}
+
 fn look_terms(ts: &[u64], table: &[u16], decisions: &[u64], alive: &mut [u64], at: usize)
     requires { ⌜ (1024 ≤ at) × (at + length (now ts) ≤ length (now alive)) ⌝ }
     requires { ⌜ All (λ (t : ℕ). validNumber (termOf t .inner) ≡ true) (now ts) ⌝ }
@@ -441,7 +381,19 @@ fn look_terms(ts: &[u64], table: &[u16], decisions: &[u64], alive: &mut [u64], a
     }
 }
 
-// The masks of one right side, and where the next ones begin.
+fn lay_terms(ts: &[u64], table: &[u16], decisions: &[u64], alive: &mut [u64], at: usize)
+    requires { ⌜ at + length (now ts) ≤ length (now alive) ⌝ }
+    ensures { λ r. ⌜ Listed (now (table .entry)) (now (decisions .entry)) (now (alive .entry)) (now (alive .exit)) (now (ts .entry)) at (length (now (ts .entry))) ⌝ }
+{
+    let mut i = 0;
+    while i < ts.len() {
+        let e = laid(table, decisions, ts[i]);
+        alive[at + i] = e;
+        i += 1;
+    }
+}
+
+// The masks of the terms of one right side, their entries behind them, and how many they are.
 fn look_operand<'a>(
     old: &'a [u64],
     new: &'a [u64],
@@ -453,16 +405,18 @@ fn look_operand<'a>(
 ) -> usize
     requires { ⌜ Stands (now old) (now new) h ⌝ }
     requires { ⌜ All (λ (u : Term). validNumber (u .inner) ≡ true) (operandOf (now old) (now new) h) ⌝ }
-    requires { ⌜ (1024 ≤ at) × (at + lengthOf h ≤ length (now alive)) ⌝ }
+    requires { ⌜ (1024 ≤ at) × (at + 2 * lengthOf h ≤ length (now alive)) ⌝ }
     requires { ⌜ ((w : ℕ) → getD (now table) w 0 ≤ 1024) ⌝ }
-    ensures { λ r. ⌜ (r ≡ at + lengthOf h) × Looked (now (table .entry)) (now (decisions .entry)) (now (alive .entry)) (now (alive .exit)) (termsAt (now (old .entry)) (now (new .entry)) (operandAt h)) at (lengthOf h) ⌝ }
+    ensures { λ r. ⌜ (r ≡ lengthOf h) × Entries (now (table .entry)) (now (decisions .entry)) (now (alive .entry)) (now (alive .exit)) (termsAt (now (old .entry)) (now (new .entry)) (operandAt h)) at (lengthOf h) ⌝ }
 {
     let ts = lower::operand_terms(old, new, h);
     look_terms(ts, table, decisions, &mut *alive, at);
-    at + ts.len()
+    let m = ts.len();
+    lay_terms(ts, table, decisions, &mut *alive, at + m);
+    m
 }
 
-// The masks of the terms of the first `n` definitions, behind those of the definitions, with the places where they begin between.
+// The masks and the entries of the terms of the first `n` definitions, behind the masks of those, with the places where they begin between.
 pub fn write_looks<'a>(
     old: &'a [u64],
     new: &'a [u64],
@@ -473,15 +427,16 @@ pub fn write_looks<'a>(
     n: usize,
 )
     requires { ⌜ Lookable (now old) (now new) (now rhss) (now table) n ⌝ }
-    requires { ⌜ 2048 + sumOf lengthOf (take n (now rhss)) ≤ length (now alive) ⌝ }
+    requires { ⌜ (2048 + 2 * sumOf lengthOf (take n (now rhss)) ≤ length (now alive)) × (length (now alive) < 65536) ⌝ }
     ensures { λ r. ⌜ ((j : ℕ) → j < 1024 → getD (now (alive .exit)) j 0 ≡ getD (now (alive .entry)) j 0) ⌝ }
     ensures { λ r. ⌜ ((d : ℕ) → d < n → Looks (source (now (old .entry)) (now (new .entry)) (now (rhss .entry)) (now (table .entry)) (now (decisions .entry)) (now (alive .exit))) d) ⌝ }
 {
     let mut at = LOOKS + LOOKS;
     let mut d = 0;
     while d < n {
-        alive[LOOKS + d] = at as u64;
-        at = look_operand(old, new, rhss[d], table, decisions, &mut *alive, at);
+        let m = look_operand(old, new, rhss[d], table, decisions, &mut *alive, at);
+        alive[LOOKS + d] = (at + 65536 * m) as u64;
+        at = at + 2 * m;
         d += 1;
     }
 }

@@ -25,7 +25,7 @@ slice-aggregate-masks c = search needs
 masks-requires : tie.Need-masks-requires
 masks-requires c κs = let s = c .before .before .before .before .before .before .before .before .before .before .before .before .before .before .before .before in
     let st : Stores = stores (s .args .old .now) [] (s .args .ands .now) (s .args .imuls .now) (s .args .bmuls .now) (s .args .zeros .now) (s .args .dsts .now) (s .args .rhss .now) in
-    masks-asks (s .args .z) st (s .args .decisions .now) (s .pre .0) _ _ _ _ _ (s .pre .1 .0) (length-replicate {A = ℕ} 10240 0) (s .pre .1 .1 .0)
+    masks-asks (s .args .z) st (s .args .decisions .now) (s .pre .0) _ _ _ _ _ (s .pre .1 .0) (length-replicate {A = ℕ} 18432 0) (s .pre .1 .1 .0)
 
 sub-write-looks : tie.Need-sub-write-looks
 sub-write-looks c = search needs
@@ -42,7 +42,7 @@ slice-aggregate-write-looks c = search needs
 write-looks-requires : tie.Need-write-looks-requires
 write-looks-requires c κs = let s = c .before .before .before .before .before .before .before .before .before .before .before .before .before .before .before .before .before .before .before .before .before .before in
     let st : Stores = stores (s .args .old .now) [] (s .args .ands .now) (s .args .imuls .now) (s .args .bmuls .now) (s .args .zeros .now) (s .args .dsts .now) (s .args .rhss .now) in
-    looks-asks (s .args .z) st (s .args .decisions .now) (s .pre .0) _ _ (s .pre .1 .0 .table-is) (c .before .before .before .before .before .masks .kept .1 .1 .1 .1 .1 .1 .1 .1 .1 .1 .1 .1 .0 ∙ length-replicate {A = ℕ} 10240 0)
+    looks-asks (s .args .z) st (s .args .decisions .now) (s .pre .0) _ _ (s .pre .1 .0 .table-is) (c .before .before .before .before .before .masks .kept .1 .1 .1 .1 .1 .1 .1 .1 .1 .1 .1 .1 .0 ∙ length-replicate {A = ℕ} 18432 0)
 
 sub-build : tie.Need-sub-build
 sub-build c = search needs

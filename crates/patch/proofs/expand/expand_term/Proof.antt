@@ -74,7 +74,7 @@ expand-operand-requires c κs = let s = c .before .before .before .before .befor
     let d : ℕ = c .before .before .before .before .before .before .node .given .0 .0 .0 in
     let p = subst (λ (w : ℕ). Placed q w d) (c .before .before .before .before .before .before .before .before .before .wire .ensures) (place-some q _ d (sym (c .before .before .before .before .before .before .before .before .inlined .ensures) ∙ ap toldNode (c .before .before .before .before .before .before .node .given .1))) in
     let e = ap termOf (c .shifts .ensures) ∙ bare-there (s .args .t) in
-    (s .pre .0, (s .pre .0 (termOf (s .args .t) .wire) d (p .node), (within-below q (s .args .below) (spelt (s .args .out .now) (s .args .c)) (termOf (s .args .t)) d p (s .pre .1 .0), (((ap (λ (u : Term). u .wire) e, (ap (λ (u : Term). validNumber (u .inner)) e ∙ s .pre .1 .1 .0 .0, ap (λ (u : Term). validNumber (u .outer)) e ∙ s .pre .1 .1 .0 .1)), omega (arith, s .pre .1 .1 .1)), subst (λ (u : Term). Sees (c .before .before .before .before .through .result) (shiftAt (u .inner)) (shiftAt (u .outer))) (sym e) (subst (λ (x : ℕ). Sees x (innerOf (s .args .t)) (outerOf (s .args .t))) (sym (c .before .before .before .before .through .ensures)) (sees-two (innerOf (s .args .t)) (outerOf (s .args .t)) (valid-at (termOf (s .args .t) .inner) (s .pre .1 .1 .0 .0)) (valid-at (termOf (s .args .t) .outer) (s .pre .1 .1 .0 .1))))))))
+    (record { rest = q; opened = record { nodes = λ w. omega (arith, c .before .before .before .before .before .before .before .before .before .before .before .before .before .before .shared-slice-known4 .given w); readable = s .pre .0; opens = s .pre .0 (termOf (s .args .t) .wire) d (p .node); deep = within-below q (s .args .below) (spelt (s .args .out .now) (s .args .c)) (termOf (s .args .t)) d p (s .pre .1 .0) } }, (((ap (λ (u : Term). u .wire) e, (ap (λ (u : Term). validNumber (u .inner)) e ∙ s .pre .1 .1 .0 .0, ap (λ (u : Term). validNumber (u .outer)) e ∙ s .pre .1 .1 .0 .1)), omega (arith, s .pre .1 .1 .1)), subst (λ (u : Term). Sees (c .before .before .before .before .through .result) (shiftAt (u .inner)) (shiftAt (u .outer))) (sym e) (subst (λ (x : ℕ). Sees x (innerOf (s .args .t)) (outerOf (s .args .t))) (sym (c .before .before .before .before .through .ensures)) (sees-two (innerOf (s .args .t)) (outerOf (s .args .t)) (valid-at (termOf (s .args .t) .inner) (s .pre .1 .1 .0 .0)) (valid-at (termOf (s .args .t) .outer) (s .pre .1 .1 .0 .1))))))
 
 cursor-requires : tie.Need-cursor-requires
 cursor-requires c κs = search needs
@@ -89,11 +89,11 @@ returns-4 c = let s = c .before .before .before .before .before .before .before 
     let p = subst (λ (w : ℕ). Placed q w d) (c .before .before .before .before .before .before .before .before .before .before .before .before .before .wire .ensures) (place-some q _ d (sym (c .before .before .before .before .before .before .before .before .before .before .before .before .inlined .ensures) ∙ ap toldNode (c .before .before .before .before .before .before .before .before .before .before .node .given .1))) in
     let rhs : Operand = rhsIn (s .args .old .now) (s .args .new .now) (s .args .rhss .now) d in
     let b = c .before .before .before .expand-operand in (
-      ap (spelt _) (c .cursor .ensures) ∙ to-spelt _ (b .result) ∙ b .ensures .0
+      ap (spelt _) (c .cursor .ensures) ∙ to-spelt _ (b .result) ∙ b .ensures .0 q (record { nodes = λ w. omega (arith, c .before .before .before .before .before .before .before .before .before .before .before .before .before .before .before .before .before .before .shared-slice-known4 .given w); readable = s .pre .0; opens = s .pre .0 (termOf (s .args .t) .wire) d (p .node); deep = within-below q (s .args .below) (spelt (s .args .out .now) (s .args .c)) (termOf (s .args .t)) d p (s .pre .1 .0) })
           ∙ ap (λ (u : Term). spellUnder (spell q (s .args .below - 1)) (shiftAt (u .inner)) (shiftAt (u .outer)) rhs (speltTo (s .args .out .now) (s .args .c .count))) (ap termOf (c .before .before .before .before .shifts .ensures) ∙ bare-there (s .args .t))
           ∙ ap (spellUnder (spell q (s .args .below - 1)) (innerOf (s .args .t)) (outerOf (s .args .t)) rhs) (to-cursor (s .args .out .now) (s .args .c) (c .before .before .before .before .before .before .before .before .before .before .before .before .before .before .if1 .left) (s .pre .1 .1 .1))
           ∙ spell-opens q (s .args .below) (spelt (s .args .out .now) (s .args .c)) (termOf (s .args .t)) d p (s .pre .1 .0) (sym (seen-dead (c .before .before .before .before .before .before .before .before .through .result) (innerOf (s .args .t)) (outerOf (s .args .t)) (subst (λ (x : ℕ). Sees x (innerOf (s .args .t)) (outerOf (s .args .t))) (sym (c .before .before .before .before .before .before .before .before .through .ensures)) (sees-two (innerOf (s .args .t)) (outerOf (s .args .t)) (valid-at (termOf (s .args .t) .inner) (s .pre .1 .1 .0 .0)) (valid-at (termOf (s .args .t) .outer) (s .pre .1 .1 .0 .1)))) (getD (s .args .alive .now) d 0) (omega (arith, c .before .before .before .before .before .before .before .before .before .before .before .before .before .before .before .before .shared-slice-known6 .given d))) ∙ sym (c .before .before .before .before .before .before .before .is-dead .ensures) ∙ c .before .before .before .before .before .before .if2 .left),
-      cursor-low (c .cursor .result) _ _ _ (c .cursor .ensures) (b .kept .1 .1 .1 .1 .1 .1 .0),
+      cursor-low (c .cursor .result) _ _ _ (c .cursor .ensures) (b .kept .1 .0),
     )
 
 pub expand-term-spec : {M : Type 1} → statement M
