@@ -28,7 +28,7 @@ fn print(text: &[u8]) {
 
 fn refused(number: u8) {
     let mut line = [0u8; 64];
-    let Written::Done { length } = report::refused_line(number, &mut line) else {
+    let Written::Done { length } = text::refused_line(number, &mut line) else {
         return;
     };
     io::write_all(STDERR_FILENO, &line[0..length]);
@@ -36,7 +36,7 @@ fn refused(number: u8) {
 
 fn refused_at(number: u8, at: usize) {
     let mut line = [0u8; 64];
-    let Written::Done { length } = report::refused_at_line(number, at, &mut line) else {
+    let Written::Done { length } = text::refused_at_line(number, at, &mut line) else {
         return;
     };
     io::write_all(STDERR_FILENO, &line[0..length]);
@@ -44,7 +44,7 @@ fn refused_at(number: u8, at: usize) {
 
 fn print_committed(flags: &[u8]) {
     let mut lines = [0u8; MAX_LINES];
-    match report::committed_lines(flags, &mut lines) {
+    match text::committed_lines(flags, &mut lines) {
         Written::Refused { number } => refused(number),
         Written::Done { length } => print(&lines[0..length]),
     }

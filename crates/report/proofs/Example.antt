@@ -47,9 +47,9 @@ use Rattle.fusion.specs.Left as Left
 use Rattle.fusion.specs.Left.{Lent, lent, input, hasRoom, countsOf, leaves}
 use Rattle.fusion.specs.Answer.{toldFused, Fuses}
 use Rattle.fusion.proofs.Closing.{fuses-patched}
+use Rattle.text.specs.Decimal.{decimalBy, decimal}
+use Rattle.text.specs.Text.{valuesText, okText}
 use Rattle.report.specs.declared.outcome.Outcome.the-variants as O
-use Rattle.report.specs.Decimal.{decimalBy, decimal}
-use Rattle.report.specs.Text.{valuesText, okText}
 use Rattle.report.specs.Report.{Reports, answers}
 use Rattle.report.specs.Outcome.{made, ReadLent, Comes, fused}
 use Rattle.report.proofs.Theorem.{saidBy}

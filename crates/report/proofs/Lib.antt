@@ -1,5 +1,3 @@
-pub mod Decimals
-pub mod Putting
 pub mod Coming
 pub mod Filing
 pub mod Once

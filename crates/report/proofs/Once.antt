@@ -1,4 +1,4 @@
--- One line, one file, one list: no second answer satisfies a contract. Assumes nothing.
+-- One line, one file: no second answer satisfies a contract. Assumes nothing.
 use mathlib.Core.Path.{_≡_, refl, sym, ap, _∙_, subst}
 use Prim.Native.Nat.{ℕ}
 use native.Mathlib.Omega.{arith}
@@ -18,11 +18,11 @@ use Rattle.fusion.specs.declared.Fused.the-variants as F
 use Rattle.fusion.specs.Left.{Lent, lent, output}
 use Rattle.fusion.specs.Answer.{toldFused, Fuses}
 use Rattle.fusion.proofs.Once.{fuses-once}
+use Rattle.text.specs.Text.{Puts}
+use Rattle.text.proofs.Once.{puts-once}
 use Rattle.report.specs.declared.outcome.Outcome.{Outcome}
 use Rattle.report.specs.declared.outcome.Outcome.the-variants as O
 use Rattle.report.specs.declared.FuseFile.{FuseFile}
-use Rattle.report.specs.Text.{Puts}
-use Rattle.report.specs.Committed.{Lines, many, few}
 use Rattle.report.specs.Outcome.{made, ReadLent, Comes, unread, unfused, fused, toldOutcome}
 use Rattle.report.specs.Report.{RESULT_TERMS, lineOf, Answered, Reports, long, answers, Reported}
 use Rattle.report.specs.File as L
@@ -82,9 +82,6 @@ module _ (slots : ℕ) where
 
 -- ---- the line
 
-pub puts-once : {text out : List ℕ} {r₁ r₂ : Written} {o₁ o₂ : List ℕ} → Puts text out r₁ o₁ → Puts text out r₂ o₂ → (r₁ ≡ r₂) × (o₁ ≡ o₂)
-puts-once a b = (a .answer ∙ sym (b .answer), a .bytes-are ∙ sym (b .bytes-are))
-
 pub answered-once : {bytes : List ℕ} {o₁ o₂ : Outcome} → Answered bytes o₁ → Answered bytes o₂ → o₁ ≡ o₂
 answered-once {bytes} {o₁} {o₂} a b = comes-once 2 bytes (made RESULT_TERMS) o₁ o₂ (a .left) (b .left) (a .comes) (b .comes) .0
 
@@ -99,14 +96,6 @@ pub reported-once : (bytes out : List ℕ) (r₁ r₂ : Written) (o₁ o₂ : Li
 reported-once bytes out r₁ r₂ o₁ o₂ a b =
     let e = reports-once bytes (a .line) (b .line) (a .reports) (b .reports) in
     puts-once (subst (λ (t : List ℕ). Puts t out r₁ o₁) e (a .puts)) (b .puts)
-
--- ---- the committed wires
-
-pub lines-once : (flags out : List ℕ) (r₁ r₂ : Written) (o₁ o₂ : List ℕ) → Lines flags out r₁ o₁ → Lines flags out r₂ o₂ → (r₁ ≡ r₂) × (o₁ ≡ o₂)
-lines-once flags out r₁ r₂ o₁ o₂ (many h) (many i) = (refl, refl)
-lines-once flags out r₁ r₂ o₁ o₂ (many h) (few i b) = absurd (omega arith)
-lines-once flags out r₁ r₂ o₁ o₂ (few h a) (many i) = absurd (omega arith)
-lines-once flags out r₁ r₂ o₁ o₂ (few h a) (few i b) = puts-once a b
 
 -- ---- the file
 

@@ -3,11 +3,9 @@ use mathlib.Core.Path.{_≡_, refl, sym, ap, ap₂, _∙_, subst}
 use Prim.Native.Nat.{ℕ, zero, suc, _+_, _-_, _≤_}
 use native.Mathlib.Omega.{arith}
 use mathlib.Core.Bool.{Bool, true, false, cond}
-use lib.Dec.{leb}
 use mathlib.Core.List.{List, [], _∷_, _++_, map}
 use lib.ListN.{length, take, drop, length-map, length-append}
 use lib.Seq.{sets, drop-at, length-sets}
-use borrow.Author.Tests.{leb-true}
 use Rattle.word.specs.Answers as T
 use Rattle.operand.specs.Numbers.{operandOf}
 use Rattle.lower.specs.declared.Sizes.{Sizes}
@@ -18,11 +16,10 @@ use Rattle.lower.specs.Stores.{systemOf}
 use Rattle.lower.proofs.Laws.{map-join, rows-length}
 use Rattle.house_file.specs.Format.{systemFrom, fileOf}
 use Rattle.house_file.specs.Decoding.{entriesAt}
-use Rattle.house_file.specs.Reading.{ROOM, total, readOf}
+use Rattle.house_file.specs.Reading.{total, readOf}
 use Rattle.house_file.specs.declared.Read.the-variants as R
 use Rattle.house_read.specs.Answer.{ReadIs}
 use Rattle.house_read.proofs.Backs.{answered, read-back}
-use Rattle.house_write.specs.declared.Written.{Written}
 use Rattle.house_write.specs.declared.Written.the-variants as W
 use Rattle.house_write.specs.Write.{WriteIs}
 use Rattle.house_write.proofs.Once.{is-written}
@@ -36,17 +33,17 @@ use Rattle.patch.proofs.Counting.{counted}
 use Rattle.fusion.specs.declared.Counts.{Counts}
 use Rattle.fusion.specs.Left.{Lent, input, output, fused, flagsOf, countsOf, sizesAfter, leaves}
 use Rattle.fusion.proofs.System.{sets-front, take-front, room}
+use Rattle.text.specs.Text.{okText}
+use Rattle.text.specs.Committed.{committedFrom}
+use Rattle.text.proofs.Putting.{committed-append}
 use Rattle.report.specs.declared.outcome.Outcome.{Outcome}
 use Rattle.report.specs.declared.outcome.Outcome.the-variants as O
 use Rattle.report.specs.Outcome as C
-use Rattle.report.specs.Text.{okText, linesText, Puts}
-use Rattle.report.specs.Committed.{committedFrom, Lines, many, few}
 use Rattle.report.specs.Outcome.{made, Comes, nineOf, toldOutcome}
 use Rattle.report.specs.Report.{RESULT_TERMS, lineOf, Answered}
 use Rattle.report.specs.declared.FuseFile.{FuseFile}
 use Rattle.report.specs.declared.FuseFile.the-variants.{Done}
 use Rattle.report.specs.File.{after, WritesOut, unread, unfused, short, unwritten, written, FusesFile, long, looked}
-use Rattle.report.proofs.Putting.{committed-append}
 use Rattle.report.proofs.Coming.{FusedDone, fused-done, done-counts}
 
 -- the system that the bytes say, z being what they count
@@ -284,27 +281,6 @@ module _ (slots : ℕ) (bytes out flags : List ℕ) (n w : ℕ) where
   -- THE THEOREM. What is written is the file of the patched system, and the flags are its committed wires.
   pub file-patched : (out′ flags′ : List ℕ) → FusesFile slots bytes out flags (Done n w) out′ flags′ → FileIs slots bytes out flags n w out′ flags′
   file-patched out′ flags′ h = from-file (Done n w) out′ flags′ refl h
-
--- ---- a text that was put
-
-module _ {text out out′ : List ℕ} where
-  pub puts-front : {r : Written} (n : ℕ) → r ≡ W.Done n → Puts text out r out′ → (take n out′ ≡ text) × (drop n out′ ≡ drop n out) × (n ≤ length out′)
-  puts-front {r} n i a = go (leb (length text) (length out)) refl (sym i ∙ a .answer) (a .bytes-are)
-    where
-      go : (b : Bool) → leb (length text) (length out) ≡ b → W.Done n ≡ cond b (W.Done (length text)) (W.Refused ROOM) → out′ ≡ cond b (sets out 0 text) out
-          → (take n out′ ≡ text) × (drop n out′ ≡ drop n out) × (n ≤ length out′)
-      go true e p q =
-          let k : length text ≡ n = cc in
-          let h : n ≤ length out = omega (arith, leb-true (length text) (length out) e) in (
-            ap (take n) q ∙ take-front text out n k h,
-            ap (drop n) q ∙ drop-front text out n k h,
-            omega (arith, h, ap length q, length-sets out 0 text),
-          )
-      go false e p q = absurd (let x : _≡_ {A = ℕ} 0 1 = cc in omega arith)
-
-pub lines-front : {flags out out′ : List ℕ} {r : Written} (n : ℕ) → r ≡ W.Done n → Lines flags out r out′ → (take n out′ ≡ linesText (committedFrom 0 flags)) × (drop n out′ ≡ drop n out) × (n ≤ length out′)
-lines-front n e (many h) = absurd (let x : _≡_ {A = ℕ} 0 1 = cc in omega arith)
-lines-front n e (few h a) = puts-front n e a
 
 -- ---- the committed wires
 

@@ -1,6 +1,3 @@
-pub mod Decimal
-pub mod Text
-pub mod Committed
 pub mod Outcome
 pub mod Steps
 pub mod Report

@@ -16,8 +16,8 @@ use Rattle.word.specs.Answers.{Told, given}
 use Rattle.lower.specs.Faults.{FULL}
 use Rattle.house_write.specs.declared.Written.{Written}
 use Rattle.fusion.specs.Left.{Lent}
+use Rattle.text.specs.Text.{refusedText, okText, Puts}
 use Rattle.report.specs.declared.outcome.Outcome.{Outcome}
-use Rattle.report.specs.Text.{refusedText, okText, Puts}
 use Rattle.report.specs.Outcome.{made, Comes, toldOutcome}
 
 abbrev pub MAX_INPUT : ℕ

@@ -3,8 +3,7 @@ ghost use mathlib.Core.Path.{_≡_};
 ghost use Prim.Native.Nat.{_≤_};
 ghost use lib.ListN.{length};
 ghost use Rattle.fusion.specs.Left.{lent};
-ghost use Rattle.report.specs.Text.{refusedText, refusedAtText, okText, Puts, Enough};
-ghost use Rattle.report.specs.Committed.{Lines};
+ghost use Rattle.text.specs.Text.{okText, Puts, Enough};
 ghost use Rattle.report.specs.Outcome.{nineOf, toldOutcome};
 ghost use Rattle.report.specs.Steps.{Tallied, fileBy, flagsBy};
 ghost use Rattle.report.specs.Report.{lineOf, Answered, Reported};
@@ -15,7 +14,6 @@ use lower::Sizes;
 use outcome::Outcome;
 
 mod outcome;
-mod text;
 
 // The most bytes that `report` looks at, and the terms of its result store.
 pub const MAX_INPUT: usize = 65536;
@@ -35,78 +33,6 @@ pub enum FuseFile {
     Unread { number: u8, at: usize },
 }
 
-// A text is counted first, by putting it where all of it but a byte is dropped: one that does not fit is not begun.
-
-// `refused N` and a newline.
-pub fn refused_line(number: u8, out: &mut [u8]) -> Written
-    ensures { λ r. ⌜ Puts (refusedText number) (now (out .entry)) r (now (out .exit)) ⌝ }
-    ensures { λ r. ⌜ Enough 29 (now (out .entry)) r ⌝ }
-{
-    let mut none = [0u8; 1];
-    let n = text::put_refused(number as usize, &mut none);
-    if out.len() < n {
-        return Written::Refused {
-            number: house_file::ROOM,
-        };
-    }
-    text::put_refused(number as usize, out);
-    Written::Done { length: n }
-}
-
-// `refused N at OFFSET` and a newline.
-pub fn refused_at_line(number: u8, at: usize, out: &mut [u8]) -> Written
-    ensures { λ r. ⌜ Puts (refusedAtText number at) (now (out .entry)) r (now (out .exit)) ⌝ }
-    ensures { λ r. ⌜ Enough 53 (now (out .entry)) r ⌝ }
-{
-    let mut none = [0u8; 1];
-    let n = text::put_refused_at(number as usize, at, &mut none);
-    if out.len() < n {
-        return Written::Refused {
-            number: house_file::ROOM,
-        };
-    }
-    text::put_refused_at(number as usize, at, out);
-    Written::Done { length: n }
-}
-
-// The wires whose flag is not 0, rising, each on a line of its own.
-pub fn committed_lines(flags: &[u8], out: &mut [u8]) -> Written
-    ensures { λ r. ⌜ Lines (now (flags .entry)) (now (out .entry)) r (now (out .exit)) ⌝ }
-    ensures { λ r. ⌜ (length (now (flags .entry)) ≤ 4096 → Enough 86016 (now (out .entry)) r) ⌝ }
-{
-    if lower::MAX_WIRES < flags.len() {
-        return Written::Refused {
-            number: lower::FULL,
-        };
-    }
-    let mut none = [0u8; 1];
-    let n = text::put_lines(flags, &mut none);
-    if out.len() < n {
-        return Written::Refused {
-            number: house_file::ROOM,
-        };
-    }
-    text::put_lines(flags, out);
-    Written::Done { length: n }
-}
-
-// `ok`, each value after a space, and a newline.
-fn ok_line(vs: &[usize], out: &mut [u8]) -> Written
-    requires { ⌜ length (now vs) ≤ 16 ⌝ }
-    ensures { λ r. ⌜ Puts (okText (now (vs .entry))) (now (out .entry)) r (now (out .exit)) ⌝ }
-    ensures { λ r. ⌜ Enough 339 (now (out .entry)) r ⌝ }
-{
-    let mut none = [0u8; 1];
-    let n = text::put_ok(vs, &mut none);
-    if out.len() < n {
-        return Written::Refused {
-            number: house_file::ROOM,
-        };
-    }
-    text::put_ok(vs, out);
-    Written::Done { length: n }
-}
-
 fn fused_line(z: Sizes, k: Counts, out: &mut [u8]) -> Written
     requires { ⌜ k .gone ≤ z .linears ⌝ }
     ensures { λ r. ⌜ Puts (okText (nineOf z k)) (now (out .entry)) r (now (out .exit)) ⌝ }
@@ -123,7 +49,7 @@ fn fused_line(z: Sizes, k: Counts, out: &mut [u8]) -> Written
         k.written,
         k.kept,
     ];
-    ok_line(&vs, out)
+    text::ok_line(&vs, out)
 }
 
 fn outcome_line(o: Outcome, out: &mut [u8]) -> Written
@@ -132,8 +58,8 @@ fn outcome_line(o: Outcome, out: &mut [u8]) -> Written
     ensures { λ r. ⌜ Enough 339 (now (out .entry)) r ⌝ }
 {
     match o {
-        Outcome::Unread { number, at: _ } => refused_line(number, out),
-        Outcome::Unfused { number } => refused_line(number, out),
+        Outcome::Unread { number, at: _ } => text::refused_line(number, out),
+        Outcome::Unfused { number } => text::refused_line(number, out),
         Outcome::Fused { sizes, counts } => fused_line(sizes, counts, out),
     }
 }
@@ -172,7 +98,7 @@ pub fn report(input: &[u8], out: &mut [u8]) -> Written
     ensures { λ r. ⌜ Enough 339 (now (out .entry)) r ⌝ }
 {
     if MAX_INPUT < input.len() {
-        return refused_line(lower::FULL, out);
+        return text::refused_line(lower::FULL, out);
     }
     outcome_line(answer(input), out)
 }

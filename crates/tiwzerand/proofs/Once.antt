@@ -1,14 +1,11 @@
 -- Each exported function has one answer: no second number, and nothing else left in what was lent. Assumes nothing.
 --
 -- Composing and pushing give what `Gives` says of an equation's Told; filling back has `fills-once` of its crate.
-use mathlib.Core.Path.{_≡_, sym, ap, _∙_}
+use mathlib.Core.Path.{_≡_, ap}
 use Prim.Native.Nat.{ℕ}
 use mathlib.Core.List.{List}
-use Rattle.word.specs.Answers.{Told}
 use Rattle.lower.specs.declared.Sizes.{Sizes}
 use Rattle.lower.specs.Stores.{Stores}
-use Rattle.house_file.specs.Reading.{toldRead}
-use Rattle.house_file.specs.declared.Read.{Read}
 use Rattle.house_read.proofs.Files.{Same, read-once}
 use Rattle.house_write.specs.Write.{toldWritten}
 use Rattle.house_write.proofs.Once.{write-once}
@@ -16,16 +13,8 @@ use Rattle.fusion.specs.Left.{Lent}
 use Rattle.fusion.proofs.Once.{fuses-once}
 use Rattle.evaluate.specs.Evaluation.{toldEvaluated}
 use Rattle.evaluate.proofs.Once.{evaluate-once}
-use Rattle.tiwzerand.specs.Exported.{number, laid, Gives, laidRead, GivesRead, Reads, Writes, FusesTo, Evaluates}
-
-module _ {vs : List ℕ} {r₁ r₂ : ℕ} {vs₁ vs₂ : List ℕ} where
-  -- the number and the lent values are those of what is told
-  pub gives-once : (t₁ t₂ : Told) → t₁ ≡ t₂ → Gives t₁ vs r₁ vs₁ → Gives t₂ vs r₂ vs₂ → (r₁ ≡ r₂) × (vs₁ ≡ vs₂)
-  gives-once t₁ t₂ e x y = (x .number-is ∙ ap number e ∙ sym (y .number-is), x .values-are ∙ ap (laid vs) e ∙ sym (y .values-are))
-
-  pub gives-read-once : (a₁ a₂ : Read) → a₁ ≡ a₂ → GivesRead a₁ vs r₁ vs₁ → GivesRead a₂ vs r₂ vs₂ → (r₁ ≡ r₂) × (vs₁ ≡ vs₂)
-  gives-read-once a₁ a₂ e x y =
-      (x .number-is ∙ ap (λ (a : Read). number (toldRead a)) e ∙ sym (y .number-is), x .values-are ∙ ap (laidRead vs) e ∙ sym (y .values-are))
+use Rattle.tell.proofs.Once.{gives-once, gives-read-once}
+use Rattle.tiwzerand.specs.Exported.{Reads, Writes, FusesTo, Evaluates}
 
 -- all that reading leaves
 pub record SameRead (r₁ r₂ : ℕ) (t a i b o d h vs t₂ a₂ i₂ b₂ o₂ d₂ h₂ vs₂ : List ℕ) : Type 0 where

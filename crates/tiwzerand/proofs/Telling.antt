@@ -1,12 +1,8 @@
--- Shifts found by their numbers, what is told of them, and values laid one after the other. Assumes nothing.
-use mathlib.Core.Path.{_≡_, refl, sym, ap, _∙_}
+-- Shifts found by their numbers, and what is told of them. Assumes nothing.
+use mathlib.Core.Path.{_≡_, refl, sym}
 use mathlib.Core.Bool.{Bool, true, false, cond, _&&_}
-use mathlib.Core.List.{List}
-use Prim.Native.Nat.{ℕ, _+_, _≤_, _<_}
-use native.Mathlib.Numerals.{add-one}
+use Prim.Native.Nat.{ℕ}
 use native.Mathlib.Omega.{arith}
-use lib.ListN.{length, getD, set, drop, drop-of-length-le}
-use lib.Seq.{sets}
 use borrow.Author.Tests.{lt-ltb}
 use Rattle.shift.specs.Shifts.{widthOf, valid, validNumber, shiftAt}
 use Rattle.shift.specs.Answers.{found, composed, toldComposed}
@@ -19,7 +15,6 @@ use Rattle.shift.proofs.Numbers.{valid-at}
 use Rattle.operand.specs.Push.{pushed, pushValid, toldPushed}
 use Rattle.operand.specs.declared.PushInner.{PushInner}
 use Rattle.operand.specs.declared.Pushed.the-variants as P
-use Rattle.lower.proofs.Firsts.{drop-step}
 use Rattle.tiwzerand.specs.Exported.{composedAt, composeTold, pushedAt, pushTold}
 
 -- ---- found
@@ -88,10 +83,3 @@ module _ (i o s slots : ℕ) where
 
   pub pushed-told : toldPushed (pushedAt i o s slots) ≡ pushTold i o s slots
   pushed-told = push-tells-by (pushValid (shiftAt i) (shiftAt o) (shiftAt s) slots) (validNumber i && (validNumber o && validNumber s))
-
--- ---- values laid
-pub lay-step : (l a : List ℕ) (i : ℕ) → i < length a → sets l i (drop i a) ≡ sets (set l i (getD a i 0)) (i + 1) (drop (i + 1) a)
-lay-step l a i h = ap (sets l i) (drop-step a i 0 h) ∙ ap (λ (k : ℕ). sets (set l i (getD a i 0)) k (drop (i + 1) a)) (sym (add-one i))
-
-pub lay-end : (l a : List ℕ) (i : ℕ) → length a ≤ i → sets l i (drop i a) ≡ l
-lay-end l a i h = ap (sets l i) (drop-of-length-le a {i = i} h)

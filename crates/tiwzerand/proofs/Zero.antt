@@ -26,7 +26,8 @@ use Rattle.evaluate.specs.declared.Evaluated.{Evaluated}
 use Rattle.undo.specs.FillBack.{FilledBack}
 use Rattle.fill_back.specs.Filling as B
 use Rattle.fill_back.specs.Filling.{flagged, FillsIs}
-use Rattle.tiwzerand.specs.Exported.{number, Reads, Writes, FusesTo, Evaluates}
+use Rattle.tell.specs.Gives.{number}
+use Rattle.tiwzerand.specs.Exported.{Reads, Writes, FusesTo, Evaluates}
 
 -- something is told, and no refusal
 pub data Answered : Told → Type 0 where

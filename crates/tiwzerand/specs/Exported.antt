@@ -1,24 +1,17 @@
 -- What an exported function gives back (01, "Numbers given back"): a number, and values in a lent slice.
 --
---   number t           0 for an answer, the table's number for a refusal
---   laid vs t          the lent values vs afterwards: an answer's values from their front on, as far as they reach; as they were on a refusal
---   Gives t vs r vs′   the number r and the lent values, vs before and vs′ after, are those of t
 --   sizes              the sizes of a system, each handed in by itself
 --   composedAt         what `compose` answers of two shifts by number: 4 where a number is no valid shift's; composeTold, number and values
 --   pushedAt           what `push_inner` answers of three; pushTold, number and values
---   laidRead           the lent values after reading: on a refusal the offset stands first; GivesRead, these and the number
 --   Reads, FusesTo, Writes, Evaluates   what each function gives and leaves: an answer as the function below it gives one, and the number
---                      and values of that answer. Filling back gives a number only: `FillsIs` of its crate says which.
---
--- `sets l i xs` is the list l with xs stored from place i on; what would stand past its end is dropped.
+--                      and values of that answer, by `Gives` and `GivesRead` of `tell`. Filling back gives a number only: `FillsIs` of its
+--                      crate says which.
 --
 -- Assumes nothing.
-use mathlib.Core.Path.{_≡_}
 use Prim.Native.Nat.{ℕ}
 use mathlib.Core.Bool.{cond, _&&_}
-use mathlib.Core.List.{List, [], _∷_}
-use lib.Seq.{sets}
-use Rattle.word.specs.Answers.{Told, given, refused, checked}
+use mathlib.Core.List.{List}
+use Rattle.word.specs.Answers.{Told, checked}
 use Rattle.shift.specs.Shifts.{validNumber, shiftAt}
 use Rattle.shift.specs.Compose.{composeValid}
 use Rattle.shift.specs.Answers as S
@@ -30,9 +23,7 @@ use Rattle.operand.specs.declared.Pushed.{Pushed}
 use Rattle.operand.specs.declared.Pushed.the-variants as P
 use Rattle.lower.specs.declared.Sizes.{Sizes}
 use Rattle.lower.specs.Stores.{Stores}
-use Rattle.house_file.specs.Reading.{toldRead}
 use Rattle.house_file.specs.declared.Read.{Read}
-use Rattle.house_file.specs.declared.Read.the-variants.{Refused, Done}
 use Rattle.house_read.specs.Answer.{ReadIs}
 use Rattle.house_write.specs.Write.{WriteIs, toldWritten}
 use Rattle.house_write.specs.declared.Written.{Written}
@@ -40,18 +31,7 @@ use Rattle.fusion.specs.Left.{Lent}
 use Rattle.fusion.specs.Answer.{Fuses}
 use Rattle.evaluate.specs.Evaluation.{EvaluateIs, toldEvaluated}
 use Rattle.evaluate.specs.declared.Evaluated.{Evaluated}
-
-abbrev pub number : Told → ℕ
-number (given xs) = 0
-number (refused n) = n
-
-abbrev pub laid : List ℕ → Told → List ℕ
-laid vs (given xs) = sets vs 0 xs
-laid vs (refused n) = vs
-
-pub record Gives (t : Told) (vs : List ℕ) (r : ℕ) (vs′ : List ℕ) : Type 0 where
-  pub number-is : r ≡ number t
-  pub values-are : vs′ ≡ laid vs t
+use Rattle.tell.specs.Gives.{Gives, GivesRead}
 
 abbrev pub sizes : ℕ → ℕ → ℕ → ℕ → ℕ → ℕ → Sizes
 sizes wires ands imuls bmuls zeros linears =
@@ -74,15 +54,6 @@ pushTold i o s slots =
     checked (validNumber i && (validNumber o && validNumber s)) (O.values (pushValid (shiftAt i) (shiftAt o) (shiftAt s) slots))
 
 -- ---- house files
-
--- "with the offset of its field's tag"
-abbrev pub laidRead : List ℕ → Read → List ℕ
-laidRead vs (Refused n at) = sets vs 0 (at ∷ [])
-laidRead vs (Done z terms) = laid vs (toldRead (Done z terms))
-
-pub record GivesRead (a : Read) (vs : List ℕ) (r : ℕ) (vs′ : List ℕ) : Type 0 where
-  pub number-is : r ≡ number (toldRead a)
-  pub values-are : vs′ ≡ laidRead vs a
 
 -- s is the bytes
 pub record Reads (s terms ands imuls bmuls zeros dsts rhss vs : List ℕ) (r : ℕ) (terms′ ands′ imuls′ bmuls′ zeros′ dsts′ rhss′ vs′ : List ℕ) : Type 0 where

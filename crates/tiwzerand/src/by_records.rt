@@ -3,7 +3,6 @@ ghost use mathlib.Core.List.{[]};
 ghost use Rattle.fill_back.specs.Filling.{FillsIs};
 ghost use Rattle.records.specs.Records.{dstsOf, rhssOf, storesBy, lentBy};
 ghost use Rattle.tiwzerand.specs.Exported.{sizes, Reads, FusesTo, Writes, Evaluates};
-use crate::tell;
 use lower::Sizes;
 use records::Definition;
 

@@ -5,7 +5,8 @@ ghost use mathlib.Core.List.{[]};
 ghost use Rattle.lower.specs.Stores.{stores};
 ghost use Rattle.fusion.specs.Left.{lent};
 ghost use Rattle.fill_back.specs.Filling.{FillsIs};
-ghost use Rattle.tiwzerand.specs.Exported.{Gives, sizes, composedAt, composeTold, pushedAt, pushTold, Reads, Writes, FusesTo, Evaluates};
+ghost use Rattle.tell.specs.Gives.{Gives};
+ghost use Rattle.tiwzerand.specs.Exported.{sizes, composedAt, composeTold, pushedAt, pushTold, Reads, Writes, FusesTo, Evaluates};
 use lower::Sizes;
 use operand::Pushed;
 use shift::Composed;
@@ -13,7 +14,6 @@ use shift::Found;
 use shift::Shift;
 
 pub mod by_records;
-mod tell;
 
 fn composed(inner: u64, outer: u64) -> Composed
     ensures { λ r. ⌜ r ≡ composedAt inner outer ⌝ }

@@ -1,5 +1,5 @@
 -- The lines are there. Assumes nothing.
-use Rattle.report.proofs.Theorem.{lines-front}
+use Rattle.text.proofs.Once.{lines-front}
 use borrow.Author.Needs.{needs}
 use Rattle.fuse.proofs.print_committed.Statement.{statement}
 use Rattle.fuse.proofs.print_committed.Tie as tie

@@ -1,5 +1,5 @@
 -- The line is there. Assumes nothing.
-use Rattle.report.proofs.Theorem.{puts-front}
+use Rattle.text.proofs.Once.{puts-front}
 use borrow.Author.Needs.{needs}
 use Rattle.fusereport.proofs.main.Statement.{statement}
 use Rattle.fusereport.proofs.main.Tie as tie

@@ -12,15 +12,16 @@ use Rattle.evaluate.specs.Evaluation.{EvaluateIs, toldEvaluated}
 use Rattle.records.specs.Records.{storesBy}
 use Rattle.records.specs.declared.Definition.{Definition}
 use Rattle.records.proofs.Definition as T
-use Rattle.tiwzerand.specs.Exported.{Gives, Evaluates}
+use Rattle.tell.specs.Gives.{Gives}
+use Rattle.tiwzerand.specs.Exported.{Evaluates}
 use Rattle.records.proofs.values.evaluate_records as inner
 use Rattle.records.proofs.values.evaluate_records.Symbol as inner-def
 use Rattle.records.proofs.values.evaluate_records.Symbol.{name as #records·values·evaluate-records}
 use Rattle.records.proofs.values.evaluate_records.Met as inner-thm
-use Rattle.tiwzerand.proofs.tell.evaluated as tells
-use Rattle.tiwzerand.proofs.tell.evaluated.Symbol as tells-def
-use Rattle.tiwzerand.proofs.tell.evaluated.Symbol.{name as #tiwzerand·tell·evaluated}
-use Rattle.tiwzerand.proofs.tell.evaluated.Met as tells-thm
+use Rattle.tell.proofs.evaluated as tells
+use Rattle.tell.proofs.evaluated.Symbol as tells-def
+use Rattle.tell.proofs.evaluated.Symbol.{name as #tell·evaluated}
+use Rattle.tell.proofs.evaluated.Met as tells-thm
 use Rattle.tiwzerand.proofs.by_records.tiwzerand_evaluate_records.Key.{name as #tiwzerand·by-records·tiwzerand-evaluate-records}
 use Rattle.tiwzerand.proofs.by_records.tiwzerand_evaluate_records as entry
 use Rattle.tiwzerand.proofs.by_records.tiwzerand_evaluate_records.Statement as stated
@@ -154,7 +155,7 @@ module _ {M : Type 1} (𝓤 : URA M) (H : Heap 𝓤) (A : Atoms 𝓤) (W : Given
         suffices ! _ (ends-at 𝓤 H A entry.ended stayed (entry.clauses 𝓤 H A mem run) W (((κ₁, (κ₃, (κ₄, (κ₅, (κ₆, (κ₇, (κ₁₄, (κ₁₅, (κ₁₆, tt))))))))), (q₁, (q₃, (q₄, (q₅, (q₆, (q₇, (q₁₄, (q₁₅, (q₁₆, tt))))))))), tt, a, vals), tt) (vint w8 r) r (tt, (tt, (tt, (tt, (tt, (tt, (tt, (tt, (tt, (tt, (tt, (tt, (tt, (tt, (w₁₅, (w₁₆, tt)))))))))))))))) (tt, (tt, (tt, (tt, (tt, (tt, (tt, (tt, (tt, (tt, (tt, (tt, (tt, (tt, (k₁₅, (k₁₆, tt))))))))))))))))) $ says ! f $ frame ! $
         nothing ! $ move ! (2 ∷ 0 ∷ []) $ fjoin ! $ move ! (1 ∷ 0 ∷ []) $ fjoin ! $ nothing ! $ fjoin ! $ nothing ! $ fjoin ! $ nothing ! $ fjoin ! $ nothing ! $ fjoin ! $ nothing ! $ fjoin ! $ nothing ! $ fjoin ! $ nothing ! $ fjoin ! $ nothing ! $ fjoin ! $ nothing ! $ fjoin ! $ nothing ! $ fjoin ! $ nothing ! $ fjoin ! $ nothing ! $ fjoin ! $ nothing ! $ fjoin ! $ nothing ! $ fjoin ! $ frame ! $ owned ! u8 (Is u8) (uint-makes 𝓤 H A W w8) r _ (refl, small) $ done !
 
-  module _ (C : Calls 𝓤 H) (Λ : Loops 𝓤 H) (fm : FmC 𝓤 H (W .laws) C) (known₁ : Triple 𝓤 (C #records·values·evaluate-records) (Inner 𝓤 H A mem run)) (known₂ : Triple 𝓤 (C #tiwzerand·tell·evaluated) (Tells 𝓤 H A mem run)) where
+  module _ (C : Calls 𝓤 H) (Λ : Loops 𝓤 H) (fm : FmC 𝓤 H (W .laws) C) (known₁ : Triple 𝓤 (C #records·values·evaluate-records) (Inner 𝓤 H A mem run)) (known₂ : Triple 𝓤 (C #tell·evaluated) (Tells 𝓤 H A mem run)) where
     walk : ent 𝓤 (onEntry 𝓤 H A entry.signature (κ₁, (κ₃, (κ₄, (κ₅, (κ₆, (κ₇, (κ₁₄, (κ₁₅, (κ₁₆, tt))))))))) (q₁, (q₃, (q₄, (q₅, (q₆, (q₇, (q₁₄, (q₁₅, (q₁₆, tt))))))))) a vals) (WpFn 𝓤 H C Λ code.function (v₁ ∷ v₂ ∷ v₃ ∷ v₄ ∷ v₅ ∷ v₆ ∷ v₇ ∷ vint w64 wires ∷ vint w64 n-ands ∷ vint w64 n-imuls ∷ vint w64 n-bmuls ∷ vint w64 n-zeros ∷ vint w64 n-linears ∷ v₁₄ ∷ v₁₅ ∷ v₁₆ ∷ []) Post)
     walk =
         qed W ((‵ (flft κ₁ q₁) ⊛ ‵ (flft κ₃ q₃) ⊛ ‵ (flft κ₄ q₄) ⊛ ‵ (flft κ₅ q₅) ⊛ ‵ (flft κ₆ q₆) ⊛ ‵ (flft κ₇ q₇) ⊛ ‵ (flft κ₁₄ q₁₄) ⊛ ‵ (flft κ₁₅ q₁₅) ⊛ ‵ (flft κ₁₆ q₁₆) ⊛ ‵ ftrue) ∷ ‵ (owns (ShrSlice (named 0) κ₁ u64 ∷ ShrSlice (named 0) κ₁ u64 ∷ ShrSlice (named 1) κ₃ u64 ∷ ShrSlice (named 2) κ₄ u64 ∷ ShrSlice (named 3) κ₅ u64 ∷ ShrSlice (named 4) κ₆ u64 ∷ ShrSlice (named 5) κ₇ R ∷ usize ∷ usize ∷ usize ∷ usize ∷ usize ∷ usize ∷ ShrSlice (named 6) κ₁₄ u64 ∷ MutSlice (named 7) κ₁₅ u64 ∷ MutSlice (named 8) κ₁₆ u64 ∷ []) a vals) ∷ []) ∵
@@ -188,7 +189,7 @@ module _ {M : Type 1} (𝓤 : URA M) (H : Heap 𝓤) (A : Atoms 𝓤) (W : Given
         by ! (exits r (ws .1 .1 .1 .1 .1 .1 .1 .1 .1 .0) (vs .1 .0) (is₂ .1) k₁₅ k₁₆ (record { answer = answer; evaluates = f; gives = g })))))))))))))))))))))))))))))))))))))
 
 module _ {M : Type 1} (𝓤 : URA M) (H : Heap 𝓤) (A : Atoms 𝓤) (W : Given 𝓤 H A) (mem : Memory → SProp 𝓤) (run : Routine → Fun 𝓤) where
-  entry-walks : (C : Calls 𝓤 H) (Λ : Loops 𝓤 H) → FmC 𝓤 H (W .laws) C → Triple 𝓤 (C #records·values·evaluate-records) (Inner 𝓤 H A mem run) → Triple 𝓤 (C #tiwzerand·tell·evaluated) (Tells 𝓤 H A mem run)
+  entry-walks : (C : Calls 𝓤 H) (Λ : Loops 𝓤 H) → FmC 𝓤 H (W .laws) C → Triple 𝓤 (C #records·values·evaluate-records) (Inner 𝓤 H A mem run) → Triple 𝓤 (C #tell·evaluated) (Tells 𝓤 H A mem run)
       → Walks 𝓤 H A entry.ended stayed (WpFn 𝓤 H C Λ code.function) (entry.clauses 𝓤 H A mem run)
   entry-walks C Λ fm known₁ known₂ = walked 𝓤 H A entry.ended stayed (entry.clauses 𝓤 H A mem run) (WpFn 𝓤 H C Λ code.function)
       (λ κs. (slice-vals, (slice-vals, (slice-vals, (slice-vals, (slice-vals, (slice-vals, (slice-vals, (uint-vals w64, (uint-vals w64, (uint-vals w64, (uint-vals w64, (uint-vals w64, (uint-vals w64, (slice-vals, (slice-vals, (slice-vals, tt)))))))))))))))))
@@ -197,7 +198,7 @@ module _ {M : Type 1} (𝓤 : URA M) (H : Heap 𝓤) (A : Atoms 𝓤) (W : Given
       walk 𝓤 H A W mem run (κs .0) (κs .1 .0) (κs .1 .1 .0) (κs .1 .1 .1 .0) (κs .1 .1 .1 .1 .0) (κs .1 .1 .1 .1 .1 .0) (κs .1 .1 .1 .1 .1 .1 .0) (κs .1 .1 .1 .1 .1 .1 .1 .0) (κs .1 .1 .1 .1 .1 .1 .1 .1 .0) (qs .0) (qs .1 .0) (qs .1 .1 .0) (qs .1 .1 .1 .0) (qs .1 .1 .1 .1 .0) (qs .1 .1 .1 .1 .1 .0) (qs .1 .1 .1 .1 .1 .1 .0) (qs .1 .1 .1 .1 .1 .1 .1 .0) (qs .1 .1 .1 .1 .1 .1 .1 .1 .0) (a .0) (a .1 .0) (a .1 .1 .0) (a .1 .1 .1 .0) (a .1 .1 .1 .1 .0) (a .1 .1 .1 .1 .1 .0) (a .1 .1 .1 .1 .1 .1 .0) (a .1 .1 .1 .1 .1 .1 .1 .0) (a .1 .1 .1 .1 .1 .1 .1 .1 .0) (a .1 .1 .1 .1 .1 .1 .1 .1 .1 .0) (a .1 .1 .1 .1 .1 .1 .1 .1 .1 .1 .0) (a .1 .1 .1 .1 .1 .1 .1 .1 .1 .1 .1 .0) (a .1 .1 .1 .1 .1 .1 .1 .1 .1 .1 .1 .1 .0) (a .1 .1 .1 .1 .1 .1 .1 .1 .1 .1 .1 .1 .1 .0) (a .1 .1 .1 .1 .1 .1 .1 .1 .1 .1 .1 .1 .1 .1 .0) (a .1 .1 .1 .1 .1 .1 .1 .1 .1 .1 .1 .1 .1 .1 .1 .0)
       (are .0 .0 .1) (are .1 .0 .0 .1) (are .1 .1 .0 .0 .1) (are .1 .1 .1 .0 .0 .1) (are .1 .1 .1 .1 .0 .0 .1) (are .1 .1 .1 .1 .1 .0 .0 .1) (are .1 .1 .1 .1 .1 .1 .0 .0 .1) (are .1 .1 .1 .1 .1 .1 .1 .0 .1) (are .1 .1 .1 .1 .1 .1 .1 .1 .0 .1) (are .1 .1 .1 .1 .1 .1 .1 .1 .1 .0 .1) (are .1 .1 .1 .1 .1 .1 .1 .1 .1 .1 .0 .1) (are .1 .1 .1 .1 .1 .1 .1 .1 .1 .1 .1 .0 .1) (are .1 .1 .1 .1 .1 .1 .1 .1 .1 .1 .1 .1 .0 .1) (are .1 .1 .1 .1 .1 .1 .1 .1 .1 .1 .1 .1 .1 .0 .0 .1) (are .1 .1 .1 .1 .1 .1 .1 .1 .1 .1 .1 .1 .1 .1 .0 .0 .1) (are .1 .1 .1 .1 .1 .1 .1 .1 .1 .1 .1 .1 .1 .1 .1 .0 .0 .1) C Λ fm known₁ known₂))
 
-entry-meets : {M : Type 1} (𝓤 : URA M) (H : Heap 𝓤) (A : Atoms 𝓤) → Given 𝓤 H A → (mem : Memory → SProp 𝓤) (run : Routine → Fun 𝓤) (𝓣 : Tables 𝓤 H) → Triple 𝓤 (𝓣 .C #records·values·evaluate-records) (Inner 𝓤 H A mem run) → Triple 𝓤 (𝓣 .C #tiwzerand·tell·evaluated) (Tells 𝓤 H A mem run)
+entry-meets : {M : Type 1} (𝓤 : URA M) (H : Heap 𝓤) (A : Atoms 𝓤) → Given 𝓤 H A → (mem : Memory → SProp 𝓤) (run : Routine → Fun 𝓤) (𝓣 : Tables 𝓤 H) → Triple 𝓤 (𝓣 .C #records·values·evaluate-records) (Inner 𝓤 H A mem run) → Triple 𝓤 (𝓣 .C #tell·evaluated) (Tells 𝓤 H A mem run)
     → Meets 𝓤 H A entry.signature (WpFn 𝓤 H (𝓣 .C) (𝓣 .Λ) code.function) (entry.spec 𝓤 H A mem run)
 entry-meets 𝓤 H A W mem run 𝓣 known₁ known₂ =
     walk-meets 𝓤 H A entry.ended stayed W (goes-dropped 𝓤 H A W 9 (shrSliceOf (0 ∷ []) tt (plain (λ _. u64))) yes (λ κs x f. refl), (goes-dropped 𝓤 H A W 9 (shrSliceOf (0 ∷ []) tt (plain (λ _. u64))) yes (λ κs x f. refl), (goes-dropped 𝓤 H A W 9 (shrSliceOf (1 ∷ []) tt (plain (λ _. u64))) yes (λ κs x f. refl), (goes-dropped 𝓤 H A W 9 (shrSliceOf (2 ∷ []) tt (plain (λ _. u64))) yes (λ κs x f. refl), (goes-dropped 𝓤 H A W 9 (shrSliceOf (3 ∷ []) tt (plain (λ _. u64))) yes (λ κs x f. refl), (goes-dropped 𝓤 H A W 9 (shrSliceOf (4 ∷ []) tt (plain (λ _. u64))) yes (λ κs x f. refl), (goes-dropped 𝓤 H A W 9 (shrSliceOf (5 ∷ []) tt (plain (λ _. R))) yes (λ κs x f. refl), (goes-dropped 𝓤 H A W 9 (plain (λ _. usize)) yes (λ κs x f. refl), (goes-dropped 𝓤 H A W 9 (plain (λ _. usize)) yes (λ κs x f. refl), (goes-dropped 𝓤 H A W 9 (plain (λ _. usize)) yes (λ κs x f. refl), (goes-dropped 𝓤 H A W 9 (plain (λ _. usize)) yes (λ κs x f. refl), (goes-dropped 𝓤 H A W 9 (plain (λ _. usize)) yes (λ κs x f. refl), (goes-dropped 𝓤 H A W 9 (plain (λ _. usize)) yes (λ κs x f. refl), (goes-dropped 𝓤 H A W 9 (shrSliceOf (6 ∷ []) tt (plain (λ _. u64))) yes (λ κs x f. refl), (goes-gave-slice 𝓤 H A W 9 7 tt (plain (λ _. u64)), (goes-gave-slice 𝓤 H A W 9 8 tt (plain (λ _. u64)), tt)))))))))))))))) (entry.clauses 𝓤 H A mem run)
@@ -210,4 +211,4 @@ tiwzerand-evaluate-records-spec 𝓤 H 𝓜 𝓖 𝓡 =
     (tables 𝓤 H 𝓜 𝓡 code.env .C) (tables 𝓤 H 𝓜 𝓡 code.env .Λ) #tiwzerand·by-records·tiwzerand-evaluate-records code.function (code.unfolded 𝓤 H 𝓜 𝓡)
     (entry-meets 𝓤 H (𝓖 .A) (givenOf 𝓤 H 𝓜 𝓖) (𝓜 .mem) (𝓡 .run) (tablesOf 𝓤 H 𝓜 (tables 𝓤 H 𝓜 𝓡 code.env))
     (cited 𝓤 H (Inner 𝓤 H (𝓖 .A) (𝓜 .mem) (𝓡 .run)) 𝓜 𝓡 code.env #records·values·evaluate-records inner-def.routine code.calls-records·values·evaluate-records (inner-thm.met 𝓤 H 𝓜 𝓖 𝓡))
-    (cited 𝓤 H (Tells 𝓤 H (𝓖 .A) (𝓜 .mem) (𝓡 .run)) 𝓜 𝓡 code.env #tiwzerand·tell·evaluated tells-def.routine code.calls-tiwzerand·tell·evaluated (tells-thm.met 𝓤 H 𝓜 𝓖 𝓡)))
+    (cited 𝓤 H (Tells 𝓤 H (𝓖 .A) (𝓜 .mem) (𝓡 .run)) 𝓜 𝓡 code.env #tell·evaluated tells-def.routine code.calls-tell·evaluated (tells-thm.met 𝓤 H 𝓜 𝓖 𝓡)))

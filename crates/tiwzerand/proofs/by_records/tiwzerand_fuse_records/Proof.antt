@@ -12,15 +12,16 @@ use Rattle.fusion.specs.Answer.{toldFused, Fuses}
 use Rattle.records.specs.Records.{lentBy}
 use Rattle.records.specs.declared.Definition.{Definition}
 use Rattle.records.proofs.Definition as T
-use Rattle.tiwzerand.specs.Exported.{Gives, FusesTo}
+use Rattle.tell.specs.Gives.{Gives}
+use Rattle.tiwzerand.specs.Exported.{FusesTo}
 use Rattle.records.proofs.fuse_records as inner
 use Rattle.records.proofs.fuse_records.Symbol as inner-def
 use Rattle.records.proofs.fuse_records.Symbol.{name as #records·fuse-records}
 use Rattle.records.proofs.fuse_records.Met as inner-thm
-use Rattle.tiwzerand.proofs.tell.fused as tells
-use Rattle.tiwzerand.proofs.tell.fused.Symbol as tells-def
-use Rattle.tiwzerand.proofs.tell.fused.Symbol.{name as #tiwzerand·tell·fused}
-use Rattle.tiwzerand.proofs.tell.fused.Met as tells-thm
+use Rattle.tell.proofs.fused as tells
+use Rattle.tell.proofs.fused.Symbol as tells-def
+use Rattle.tell.proofs.fused.Symbol.{name as #tell·fused}
+use Rattle.tell.proofs.fused.Met as tells-thm
 use Rattle.tiwzerand.proofs.by_records.tiwzerand_fuse_records.Key.{name as #tiwzerand·by-records·tiwzerand-fuse-records}
 use Rattle.tiwzerand.proofs.by_records.tiwzerand_fuse_records as entry
 use Rattle.tiwzerand.proofs.by_records.tiwzerand_fuse_records.Statement as stated
@@ -151,7 +152,7 @@ module _ {M : Type 1} (𝓤 : URA M) (H : Heap 𝓤) (A : Atoms 𝓤) (W : Given
         suffices ! _ (ends-at 𝓤 H A entry.ended stayed (entry.clauses 𝓤 H A mem run) W (((κ₁, (κ₂, (κ₃, (κ₄, (κ₅, (κ₆, (κ₇, (κ₈, (κ₁₆, tt))))))))), (q₁, (q₂, (q₃, (q₄, (q₅, (q₆, (q₇, (q₈, (q₁₆, tt))))))))), tt, a, vals), tt) (vint w8 r) r (tt, (w₂, (w₃, (w₄, (w₅, (w₆, (ds, (w₈, (tt, (tt, (tt, (tt, (tt, (tt, (tt, (w₁₆, tt)))))))))))))))) (tt, (k₂, (k₃, (k₄, (k₅, (k₆, (k₇, (k₈, (tt, (tt, (tt, (tt, (tt, (tt, (tt, (k₁₆, tt))))))))))))))))) $ says ! f $ frame ! $
         nothing ! $ move ! (8 ∷ 0 ∷ []) $ fjoin ! $ nothing ! $ fjoin ! $ nothing ! $ fjoin ! $ nothing ! $ fjoin ! $ nothing ! $ fjoin ! $ nothing ! $ fjoin ! $ nothing ! $ fjoin ! $ nothing ! $ fjoin ! $ move ! (7 ∷ 0 ∷ []) $ fjoin ! $ move ! (6 ∷ 0 ∷ []) $ fjoin ! $ move ! (5 ∷ 0 ∷ []) $ fjoin ! $ move ! (4 ∷ 0 ∷ []) $ fjoin ! $ move ! (3 ∷ 0 ∷ []) $ fjoin ! $ move ! (2 ∷ 0 ∷ []) $ fjoin ! $ move ! (1 ∷ 0 ∷ []) $ fjoin ! $ nothing ! $ fjoin ! $ frame ! $ owned ! u8 (Is u8) (uint-makes 𝓤 H A W w8) r _ (refl, small) $ done !
 
-  module _ (C : Calls 𝓤 H) (Λ : Loops 𝓤 H) (fm : FmC 𝓤 H (W .laws) C) (known₁ : Triple 𝓤 (C #records·fuse-records) (Inner 𝓤 H A mem run)) (known₂ : Triple 𝓤 (C #tiwzerand·tell·fused) (Tells 𝓤 H A mem run)) where
+  module _ (C : Calls 𝓤 H) (Λ : Loops 𝓤 H) (fm : FmC 𝓤 H (W .laws) C) (known₁ : Triple 𝓤 (C #records·fuse-records) (Inner 𝓤 H A mem run)) (known₂ : Triple 𝓤 (C #tell·fused) (Tells 𝓤 H A mem run)) where
     walk : ent 𝓤 (onEntry 𝓤 H A entry.signature (κ₁, (κ₂, (κ₃, (κ₄, (κ₅, (κ₆, (κ₇, (κ₈, (κ₁₆, tt))))))))) (q₁, (q₂, (q₃, (q₄, (q₅, (q₆, (q₇, (q₈, (q₁₆, tt))))))))) a vals) (WpFn 𝓤 H C Λ code.function (v₁ ∷ v₂ ∷ v₃ ∷ v₄ ∷ v₅ ∷ v₆ ∷ v₇ ∷ v₈ ∷ vint w64 wires ∷ vint w64 n-ands ∷ vint w64 n-imuls ∷ vint w64 n-bmuls ∷ vint w64 n-zeros ∷ vint w64 n-linears ∷ vint w64 slots ∷ v₁₆ ∷ []) Post)
     walk =
         qed W ((‵ (flft κ₁ q₁) ⊛ ‵ (flft κ₂ q₂) ⊛ ‵ (flft κ₃ q₃) ⊛ ‵ (flft κ₄ q₄) ⊛ ‵ (flft κ₅ q₅) ⊛ ‵ (flft κ₆ q₆) ⊛ ‵ (flft κ₇ q₇) ⊛ ‵ (flft κ₈ q₈) ⊛ ‵ (flft κ₁₆ q₁₆) ⊛ ‵ ftrue) ∷ ‵ (owns (ShrSlice (named 0) κ₁ u64 ∷ MutSlice (named 1) κ₂ u64 ∷ MutSlice (named 2) κ₃ u64 ∷ MutSlice (named 3) κ₄ u64 ∷ MutSlice (named 4) κ₅ u64 ∷ MutSlice (named 5) κ₆ u64 ∷ MutSlice (named 6) κ₇ R ∷ MutSlice (named 7) κ₈ u8 ∷ usize ∷ usize ∷ usize ∷ usize ∷ usize ∷ usize ∷ u64 ∷ MutSlice (named 8) κ₁₆ u64 ∷ []) a vals) ∷ []) ∵
@@ -197,7 +198,7 @@ module _ {M : Type 1} (𝓤 : URA M) (H : Heap 𝓤) (A : Atoms 𝓤) (W : Given
         by ! (exits r (ws .1 .0) (ws .1 .1 .0) (ws .1 .1 .1 .0) (ws .1 .1 .1 .1 .0) (ws .1 .1 .1 .1 .1 .0) (ws .1 .1 .1 .1 .1 .1 .0) (ws .1 .1 .1 .1 .1 .1 .1 .0) (vs .1 .0) (is₂ .1) k₂ k₃ k₄ k₅ k₆ k₇ k₈ k₁₆ (record { told = toldFused answer; fuses = f; gives = g })))))))))))))))))))))))))))))))))))))))))))))))))))))))
 
 module _ {M : Type 1} (𝓤 : URA M) (H : Heap 𝓤) (A : Atoms 𝓤) (W : Given 𝓤 H A) (mem : Memory → SProp 𝓤) (run : Routine → Fun 𝓤) where
-  entry-walks : (C : Calls 𝓤 H) (Λ : Loops 𝓤 H) → FmC 𝓤 H (W .laws) C → Triple 𝓤 (C #records·fuse-records) (Inner 𝓤 H A mem run) → Triple 𝓤 (C #tiwzerand·tell·fused) (Tells 𝓤 H A mem run)
+  entry-walks : (C : Calls 𝓤 H) (Λ : Loops 𝓤 H) → FmC 𝓤 H (W .laws) C → Triple 𝓤 (C #records·fuse-records) (Inner 𝓤 H A mem run) → Triple 𝓤 (C #tell·fused) (Tells 𝓤 H A mem run)
       → Walks 𝓤 H A entry.ended stayed (WpFn 𝓤 H C Λ code.function) (entry.clauses 𝓤 H A mem run)
   entry-walks C Λ fm known₁ known₂ = walked 𝓤 H A entry.ended stayed (entry.clauses 𝓤 H A mem run) (WpFn 𝓤 H C Λ code.function)
       (λ κs. (slice-vals, (slice-vals, (slice-vals, (slice-vals, (slice-vals, (slice-vals, (slice-vals, (slice-vals, (uint-vals w64, (uint-vals w64, (uint-vals w64, (uint-vals w64, (uint-vals w64, (uint-vals w64, (uint-vals w64, (slice-vals, tt)))))))))))))))))
@@ -206,7 +207,7 @@ module _ {M : Type 1} (𝓤 : URA M) (H : Heap 𝓤) (A : Atoms 𝓤) (W : Given
       walk 𝓤 H A W mem run (κs .0) (κs .1 .0) (κs .1 .1 .0) (κs .1 .1 .1 .0) (κs .1 .1 .1 .1 .0) (κs .1 .1 .1 .1 .1 .0) (κs .1 .1 .1 .1 .1 .1 .0) (κs .1 .1 .1 .1 .1 .1 .1 .0) (κs .1 .1 .1 .1 .1 .1 .1 .1 .0) (qs .0) (qs .1 .0) (qs .1 .1 .0) (qs .1 .1 .1 .0) (qs .1 .1 .1 .1 .0) (qs .1 .1 .1 .1 .1 .0) (qs .1 .1 .1 .1 .1 .1 .0) (qs .1 .1 .1 .1 .1 .1 .1 .0) (qs .1 .1 .1 .1 .1 .1 .1 .1 .0) (a .0) (a .1 .0) (a .1 .1 .0) (a .1 .1 .1 .0) (a .1 .1 .1 .1 .0) (a .1 .1 .1 .1 .1 .0) (a .1 .1 .1 .1 .1 .1 .0 .ptr .0) (a .1 .1 .1 .1 .1 .1 .0 .ptr .1) (a .1 .1 .1 .1 .1 .1 .0 .name) (a .1 .1 .1 .1 .1 .1 .0 .now) (a .1 .1 .1 .1 .1 .1 .1 .0) (a .1 .1 .1 .1 .1 .1 .1 .1 .0) (a .1 .1 .1 .1 .1 .1 .1 .1 .1 .0) (a .1 .1 .1 .1 .1 .1 .1 .1 .1 .1 .0) (a .1 .1 .1 .1 .1 .1 .1 .1 .1 .1 .1 .0) (a .1 .1 .1 .1 .1 .1 .1 .1 .1 .1 .1 .1 .0) (a .1 .1 .1 .1 .1 .1 .1 .1 .1 .1 .1 .1 .1 .0) (a .1 .1 .1 .1 .1 .1 .1 .1 .1 .1 .1 .1 .1 .1 .0) (a .1 .1 .1 .1 .1 .1 .1 .1 .1 .1 .1 .1 .1 .1 .1 .0)
       (are .0 .0 .1) (are .1 .0 .0 .1) (are .1 .1 .0 .0 .1) (are .1 .1 .1 .0 .0 .1) (are .1 .1 .1 .1 .0 .0 .1) (are .1 .1 .1 .1 .1 .0 .0 .1) (are .1 .1 .1 .1 .1 .1 .0 .0 .1) (are .1 .1 .1 .1 .1 .1 .1 .0 .0 .1) (are .1 .1 .1 .1 .1 .1 .1 .1 .0 .1) (are .1 .1 .1 .1 .1 .1 .1 .1 .1 .0 .1) (are .1 .1 .1 .1 .1 .1 .1 .1 .1 .1 .0 .1) (are .1 .1 .1 .1 .1 .1 .1 .1 .1 .1 .1 .0 .1) (are .1 .1 .1 .1 .1 .1 .1 .1 .1 .1 .1 .1 .0 .1) (are .1 .1 .1 .1 .1 .1 .1 .1 .1 .1 .1 .1 .1 .0 .1) (are .1 .1 .1 .1 .1 .1 .1 .1 .1 .1 .1 .1 .1 .1 .0 .1) (are .1 .1 .1 .1 .1 .1 .1 .1 .1 .1 .1 .1 .1 .1 .1 .0 .0 .1) C Λ fm known₁ known₂))
 
-entry-meets : {M : Type 1} (𝓤 : URA M) (H : Heap 𝓤) (A : Atoms 𝓤) → Given 𝓤 H A → (mem : Memory → SProp 𝓤) (run : Routine → Fun 𝓤) (𝓣 : Tables 𝓤 H) → Triple 𝓤 (𝓣 .C #records·fuse-records) (Inner 𝓤 H A mem run) → Triple 𝓤 (𝓣 .C #tiwzerand·tell·fused) (Tells 𝓤 H A mem run)
+entry-meets : {M : Type 1} (𝓤 : URA M) (H : Heap 𝓤) (A : Atoms 𝓤) → Given 𝓤 H A → (mem : Memory → SProp 𝓤) (run : Routine → Fun 𝓤) (𝓣 : Tables 𝓤 H) → Triple 𝓤 (𝓣 .C #records·fuse-records) (Inner 𝓤 H A mem run) → Triple 𝓤 (𝓣 .C #tell·fused) (Tells 𝓤 H A mem run)
     → Meets 𝓤 H A entry.signature (WpFn 𝓤 H (𝓣 .C) (𝓣 .Λ) code.function) (entry.spec 𝓤 H A mem run)
 entry-meets 𝓤 H A W mem run 𝓣 known₁ known₂ =
     walk-meets 𝓤 H A entry.ended stayed W (goes-dropped 𝓤 H A W 9 (shrSliceOf (0 ∷ []) tt (plain (λ _. u64))) yes (λ κs x f. refl), (goes-gave-slice 𝓤 H A W 9 1 tt (plain (λ _. u64)), (goes-gave-slice 𝓤 H A W 9 2 tt (plain (λ _. u64)), (goes-gave-slice 𝓤 H A W 9 3 tt (plain (λ _. u64)), (goes-gave-slice 𝓤 H A W 9 4 tt (plain (λ _. u64)), (goes-gave-slice 𝓤 H A W 9 5 tt (plain (λ _. u64)), (goes-gave-slice 𝓤 H A W 9 6 tt (plain (λ _. R)), (goes-gave-slice 𝓤 H A W 9 7 tt (plain (λ _. u8)), (goes-dropped 𝓤 H A W 9 (plain (λ _. usize)) yes (λ κs x f. refl), (goes-dropped 𝓤 H A W 9 (plain (λ _. usize)) yes (λ κs x f. refl), (goes-dropped 𝓤 H A W 9 (plain (λ _. usize)) yes (λ κs x f. refl), (goes-dropped 𝓤 H A W 9 (plain (λ _. usize)) yes (λ κs x f. refl), (goes-dropped 𝓤 H A W 9 (plain (λ _. usize)) yes (λ κs x f. refl), (goes-dropped 𝓤 H A W 9 (plain (λ _. usize)) yes (λ κs x f. refl), (goes-dropped 𝓤 H A W 9 (plain (λ _. u64)) yes (λ κs x f. refl), (goes-gave-slice 𝓤 H A W 9 8 tt (plain (λ _. u64)), tt)))))))))))))))) (entry.clauses 𝓤 H A mem run)
@@ -219,4 +220,4 @@ tiwzerand-fuse-records-spec 𝓤 H 𝓜 𝓖 𝓡 =
     (tables 𝓤 H 𝓜 𝓡 code.env .C) (tables 𝓤 H 𝓜 𝓡 code.env .Λ) #tiwzerand·by-records·tiwzerand-fuse-records code.function (code.unfolded 𝓤 H 𝓜 𝓡)
     (entry-meets 𝓤 H (𝓖 .A) (givenOf 𝓤 H 𝓜 𝓖) (𝓜 .mem) (𝓡 .run) (tablesOf 𝓤 H 𝓜 (tables 𝓤 H 𝓜 𝓡 code.env))
     (cited 𝓤 H (Inner 𝓤 H (𝓖 .A) (𝓜 .mem) (𝓡 .run)) 𝓜 𝓡 code.env #records·fuse-records inner-def.routine code.calls-records·fuse-records (inner-thm.met 𝓤 H 𝓜 𝓖 𝓡))
-    (cited 𝓤 H (Tells 𝓤 H (𝓖 .A) (𝓜 .mem) (𝓡 .run)) 𝓜 𝓡 code.env #tiwzerand·tell·fused tells-def.routine code.calls-tiwzerand·tell·fused (tells-thm.met 𝓤 H 𝓜 𝓖 𝓡)))
+    (cited 𝓤 H (Tells 𝓤 H (𝓖 .A) (𝓜 .mem) (𝓡 .run)) 𝓜 𝓡 code.env #tell·fused tells-def.routine code.calls-tell·fused (tells-thm.met 𝓤 H 𝓜 𝓖 𝓡)))

@@ -8,15 +8,16 @@ use Rattle.house_read.specs.Answer.{ReadIs}
 use Rattle.records.specs.Records.{dstsOf, rhssOf}
 use Rattle.records.specs.declared.Definition.{Definition}
 use Rattle.records.proofs.Definition as T
-use Rattle.tiwzerand.specs.Exported.{GivesRead, Reads}
+use Rattle.tell.specs.Gives.{GivesRead}
+use Rattle.tiwzerand.specs.Exported.{Reads}
 use Rattle.records.proofs.files.read_records as inner
 use Rattle.records.proofs.files.read_records.Symbol as inner-def
 use Rattle.records.proofs.files.read_records.Symbol.{name as #records·files·read-records}
 use Rattle.records.proofs.files.read_records.Met as inner-thm
-use Rattle.tiwzerand.proofs.tell.read as tells
-use Rattle.tiwzerand.proofs.tell.read.Symbol as tells-def
-use Rattle.tiwzerand.proofs.tell.read.Symbol.{name as #tiwzerand·tell·read}
-use Rattle.tiwzerand.proofs.tell.read.Met as tells-thm
+use Rattle.tell.proofs.read as tells
+use Rattle.tell.proofs.read.Symbol as tells-def
+use Rattle.tell.proofs.read.Symbol.{name as #tell·read}
+use Rattle.tell.proofs.read.Met as tells-thm
 use Rattle.tiwzerand.proofs.by_records.tiwzerand_read_records.Key.{name as #tiwzerand·by-records·tiwzerand-read-records}
 use Rattle.tiwzerand.proofs.by_records.tiwzerand_read_records as entry
 use Rattle.tiwzerand.proofs.by_records.tiwzerand_read_records.Statement as stated
@@ -132,7 +133,7 @@ module _ {M : Type 1} (𝓤 : URA M) (H : Heap 𝓤) (A : Atoms 𝓤) (W : Given
         suffices ! _ (ends-at 𝓤 H A entry.ended stayed (entry.clauses 𝓤 H A mem run) W (((κ₁, (κ₂, (κ₃, (κ₄, (κ₅, (κ₆, (κ₇, (κ₈, tt)))))))), (q₁, (q₂, (q₃, (q₄, (q₅, (q₆, (q₇, (q₈, tt)))))))), tt, a, vals), tt) (vint w8 r) r (tt, (w₂, (w₃, (w₄, (w₅, (w₆, (ds, (w₈, tt)))))))) (tt, (k₂, (k₃, (k₄, (k₅, (k₆, (k₇, (k₈, tt))))))))) $ says ! f $ frame ! $
         nothing ! $ move ! (7 ∷ 0 ∷ []) $ fjoin ! $ move ! (6 ∷ 0 ∷ []) $ fjoin ! $ move ! (5 ∷ 0 ∷ []) $ fjoin ! $ move ! (4 ∷ 0 ∷ []) $ fjoin ! $ move ! (3 ∷ 0 ∷ []) $ fjoin ! $ move ! (2 ∷ 0 ∷ []) $ fjoin ! $ move ! (1 ∷ 0 ∷ []) $ fjoin ! $ nothing ! $ fjoin ! $ frame ! $ owned ! u8 (Is u8) (uint-makes 𝓤 H A W w8) r _ (refl, small) $ done !
 
-  module _ (C : Calls 𝓤 H) (Λ : Loops 𝓤 H) (fm : FmC 𝓤 H (W .laws) C) (known₁ : Triple 𝓤 (C #records·files·read-records) (Inner 𝓤 H A mem run)) (known₂ : Triple 𝓤 (C #tiwzerand·tell·read) (Tells 𝓤 H A mem run)) where
+  module _ (C : Calls 𝓤 H) (Λ : Loops 𝓤 H) (fm : FmC 𝓤 H (W .laws) C) (known₁ : Triple 𝓤 (C #records·files·read-records) (Inner 𝓤 H A mem run)) (known₂ : Triple 𝓤 (C #tell·read) (Tells 𝓤 H A mem run)) where
     walk : ent 𝓤 (onEntry 𝓤 H A entry.signature (κ₁, (κ₂, (κ₃, (κ₄, (κ₅, (κ₆, (κ₇, (κ₈, tt)))))))) (q₁, (q₂, (q₃, (q₄, (q₅, (q₆, (q₇, (q₈, tt)))))))) a vals) (WpFn 𝓤 H C Λ code.function (v₁ ∷ v₂ ∷ v₃ ∷ v₄ ∷ v₅ ∷ v₆ ∷ v₇ ∷ v₈ ∷ []) Post)
     walk =
         qed W ((‵ (flft κ₁ q₁) ⊛ ‵ (flft κ₂ q₂) ⊛ ‵ (flft κ₃ q₃) ⊛ ‵ (flft κ₄ q₄) ⊛ ‵ (flft κ₅ q₅) ⊛ ‵ (flft κ₆ q₆) ⊛ ‵ (flft κ₇ q₇) ⊛ ‵ (flft κ₈ q₈) ⊛ ‵ ftrue) ∷ ‵ (owns (ShrSlice (named 0) κ₁ u8 ∷ MutSlice (named 1) κ₂ u64 ∷ MutSlice (named 2) κ₃ u64 ∷ MutSlice (named 3) κ₄ u64 ∷ MutSlice (named 4) κ₅ u64 ∷ MutSlice (named 5) κ₆ u64 ∷ MutSlice (named 6) κ₇ R ∷ MutSlice (named 7) κ₈ u64 ∷ []) a vals) ∷ []) ∵
@@ -175,7 +176,7 @@ module _ {M : Type 1} (𝓤 : URA M) (H : Heap 𝓤) (A : Atoms 𝓤) (W : Given
         by ! (exits r (ws .1 .0) (ws .1 .1 .0) (ws .1 .1 .1 .0) (ws .1 .1 .1 .1 .0) (ws .1 .1 .1 .1 .1 .0) (ws .1 .1 .1 .1 .1 .1 .0) (vs .1 .0) (is₂ .1) k₂ k₃ k₄ k₅ k₆ k₇ k₈ (record { answer = answer; reads = f; gives = g })))))))))))))))))))))))))))))))))))))))))))
 
 module _ {M : Type 1} (𝓤 : URA M) (H : Heap 𝓤) (A : Atoms 𝓤) (W : Given 𝓤 H A) (mem : Memory → SProp 𝓤) (run : Routine → Fun 𝓤) where
-  entry-walks : (C : Calls 𝓤 H) (Λ : Loops 𝓤 H) → FmC 𝓤 H (W .laws) C → Triple 𝓤 (C #records·files·read-records) (Inner 𝓤 H A mem run) → Triple 𝓤 (C #tiwzerand·tell·read) (Tells 𝓤 H A mem run)
+  entry-walks : (C : Calls 𝓤 H) (Λ : Loops 𝓤 H) → FmC 𝓤 H (W .laws) C → Triple 𝓤 (C #records·files·read-records) (Inner 𝓤 H A mem run) → Triple 𝓤 (C #tell·read) (Tells 𝓤 H A mem run)
       → Walks 𝓤 H A entry.ended stayed (WpFn 𝓤 H C Λ code.function) (entry.clauses 𝓤 H A mem run)
   entry-walks C Λ fm known₁ known₂ = walked 𝓤 H A entry.ended stayed (entry.clauses 𝓤 H A mem run) (WpFn 𝓤 H C Λ code.function)
       (λ κs. (slice-vals, (slice-vals, (slice-vals, (slice-vals, (slice-vals, (slice-vals, (slice-vals, (slice-vals, tt)))))))))
@@ -184,7 +185,7 @@ module _ {M : Type 1} (𝓤 : URA M) (H : Heap 𝓤) (A : Atoms 𝓤) (W : Given
       walk 𝓤 H A W mem run (κs .0) (κs .1 .0) (κs .1 .1 .0) (κs .1 .1 .1 .0) (κs .1 .1 .1 .1 .0) (κs .1 .1 .1 .1 .1 .0) (κs .1 .1 .1 .1 .1 .1 .0) (κs .1 .1 .1 .1 .1 .1 .1 .0) (qs .0) (qs .1 .0) (qs .1 .1 .0) (qs .1 .1 .1 .0) (qs .1 .1 .1 .1 .0) (qs .1 .1 .1 .1 .1 .0) (qs .1 .1 .1 .1 .1 .1 .0) (qs .1 .1 .1 .1 .1 .1 .1 .0) (a .0) (a .1 .0) (a .1 .1 .0) (a .1 .1 .1 .0) (a .1 .1 .1 .1 .0) (a .1 .1 .1 .1 .1 .0) (a .1 .1 .1 .1 .1 .1 .0 .ptr .0) (a .1 .1 .1 .1 .1 .1 .0 .ptr .1) (a .1 .1 .1 .1 .1 .1 .0 .name) (a .1 .1 .1 .1 .1 .1 .0 .now) (a .1 .1 .1 .1 .1 .1 .1 .0)
       (are .0 .0 .1) (are .1 .0 .0 .1) (are .1 .1 .0 .0 .1) (are .1 .1 .1 .0 .0 .1) (are .1 .1 .1 .1 .0 .0 .1) (are .1 .1 .1 .1 .1 .0 .0 .1) (are .1 .1 .1 .1 .1 .1 .0 .0 .1) (are .1 .1 .1 .1 .1 .1 .1 .0 .0 .1) C Λ fm known₁ known₂))
 
-entry-meets : {M : Type 1} (𝓤 : URA M) (H : Heap 𝓤) (A : Atoms 𝓤) → Given 𝓤 H A → (mem : Memory → SProp 𝓤) (run : Routine → Fun 𝓤) (𝓣 : Tables 𝓤 H) → Triple 𝓤 (𝓣 .C #records·files·read-records) (Inner 𝓤 H A mem run) → Triple 𝓤 (𝓣 .C #tiwzerand·tell·read) (Tells 𝓤 H A mem run)
+entry-meets : {M : Type 1} (𝓤 : URA M) (H : Heap 𝓤) (A : Atoms 𝓤) → Given 𝓤 H A → (mem : Memory → SProp 𝓤) (run : Routine → Fun 𝓤) (𝓣 : Tables 𝓤 H) → Triple 𝓤 (𝓣 .C #records·files·read-records) (Inner 𝓤 H A mem run) → Triple 𝓤 (𝓣 .C #tell·read) (Tells 𝓤 H A mem run)
     → Meets 𝓤 H A entry.signature (WpFn 𝓤 H (𝓣 .C) (𝓣 .Λ) code.function) (entry.spec 𝓤 H A mem run)
 entry-meets 𝓤 H A W mem run 𝓣 known₁ known₂ =
     walk-meets 𝓤 H A entry.ended stayed W (goes-dropped 𝓤 H A W 8 (shrSliceOf (0 ∷ []) tt (plain (λ _. u8))) yes (λ κs x f. refl), (goes-gave-slice 𝓤 H A W 8 1 tt (plain (λ _. u64)), (goes-gave-slice 𝓤 H A W 8 2 tt (plain (λ _. u64)), (goes-gave-slice 𝓤 H A W 8 3 tt (plain (λ _. u64)), (goes-gave-slice 𝓤 H A W 8 4 tt (plain (λ _. u64)), (goes-gave-slice 𝓤 H A W 8 5 tt (plain (λ _. u64)), (goes-gave-slice 𝓤 H A W 8 6 tt (plain (λ _. R)), (goes-gave-slice 𝓤 H A W 8 7 tt (plain (λ _. u64)), tt)))))))) (entry.clauses 𝓤 H A mem run)
@@ -197,4 +198,4 @@ tiwzerand-read-records-spec 𝓤 H 𝓜 𝓖 𝓡 =
     (tables 𝓤 H 𝓜 𝓡 code.env .C) (tables 𝓤 H 𝓜 𝓡 code.env .Λ) #tiwzerand·by-records·tiwzerand-read-records code.function (code.unfolded 𝓤 H 𝓜 𝓡)
     (entry-meets 𝓤 H (𝓖 .A) (givenOf 𝓤 H 𝓜 𝓖) (𝓜 .mem) (𝓡 .run) (tablesOf 𝓤 H 𝓜 (tables 𝓤 H 𝓜 𝓡 code.env))
     (cited 𝓤 H (Inner 𝓤 H (𝓖 .A) (𝓜 .mem) (𝓡 .run)) 𝓜 𝓡 code.env #records·files·read-records inner-def.routine code.calls-records·files·read-records (inner-thm.met 𝓤 H 𝓜 𝓖 𝓡))
-    (cited 𝓤 H (Tells 𝓤 H (𝓖 .A) (𝓜 .mem) (𝓡 .run)) 𝓜 𝓡 code.env #tiwzerand·tell·read tells-def.routine code.calls-tiwzerand·tell·read (tells-thm.met 𝓤 H 𝓜 𝓖 𝓡)))
+    (cited 𝓤 H (Tells 𝓤 H (𝓖 .A) (𝓜 .mem) (𝓡 .run)) 𝓜 𝓡 code.env #tell·read tells-def.routine code.calls-tell·read (tells-thm.met 𝓤 H 𝓜 𝓖 𝓡)))

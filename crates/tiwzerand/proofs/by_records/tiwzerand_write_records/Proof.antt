@@ -12,15 +12,16 @@ use Rattle.house_write.specs.Write.{WriteIs, toldWritten}
 use Rattle.records.specs.Records.{storesBy}
 use Rattle.records.specs.declared.Definition.{Definition}
 use Rattle.records.proofs.Definition as T
-use Rattle.tiwzerand.specs.Exported.{Gives, Writes}
+use Rattle.tell.specs.Gives.{Gives}
+use Rattle.tiwzerand.specs.Exported.{Writes}
 use Rattle.records.proofs.files.write_records as inner
 use Rattle.records.proofs.files.write_records.Symbol as inner-def
 use Rattle.records.proofs.files.write_records.Symbol.{name as #records·files·write-records}
 use Rattle.records.proofs.files.write_records.Met as inner-thm
-use Rattle.tiwzerand.proofs.tell.written as tells
-use Rattle.tiwzerand.proofs.tell.written.Symbol as tells-def
-use Rattle.tiwzerand.proofs.tell.written.Symbol.{name as #tiwzerand·tell·written}
-use Rattle.tiwzerand.proofs.tell.written.Met as tells-thm
+use Rattle.tell.proofs.written as tells
+use Rattle.tell.proofs.written.Symbol as tells-def
+use Rattle.tell.proofs.written.Symbol.{name as #tell·written}
+use Rattle.tell.proofs.written.Met as tells-thm
 use Rattle.tiwzerand.proofs.by_records.tiwzerand_write_records.Key.{name as #tiwzerand·by-records·tiwzerand-write-records}
 use Rattle.tiwzerand.proofs.by_records.tiwzerand_write_records as entry
 use Rattle.tiwzerand.proofs.by_records.tiwzerand_write_records.Statement as stated
@@ -148,7 +149,7 @@ module _ {M : Type 1} (𝓤 : URA M) (H : Heap 𝓤) (A : Atoms 𝓤) (W : Given
         suffices ! _ (ends-at 𝓤 H A entry.ended stayed (entry.clauses 𝓤 H A mem run) W (((κ₁, (κ₃, (κ₄, (κ₅, (κ₆, (κ₇, (κ₁₄, (κ₁₅, tt)))))))), (q₁, (q₃, (q₄, (q₅, (q₆, (q₇, (q₁₄, (q₁₅, tt)))))))), tt, a, vals), tt) (vint w8 r) r (tt, (tt, (tt, (tt, (tt, (tt, (tt, (tt, (tt, (tt, (tt, (tt, (tt, (w₁₄, (w₁₅, tt))))))))))))))) (tt, (tt, (tt, (tt, (tt, (tt, (tt, (tt, (tt, (tt, (tt, (tt, (tt, (k₁₄, (k₁₅, tt)))))))))))))))) $ says ! f $ frame ! $
         nothing ! $ move ! (2 ∷ 0 ∷ []) $ fjoin ! $ move ! (1 ∷ 0 ∷ []) $ fjoin ! $ nothing ! $ fjoin ! $ nothing ! $ fjoin ! $ nothing ! $ fjoin ! $ nothing ! $ fjoin ! $ nothing ! $ fjoin ! $ nothing ! $ fjoin ! $ nothing ! $ fjoin ! $ nothing ! $ fjoin ! $ nothing ! $ fjoin ! $ nothing ! $ fjoin ! $ nothing ! $ fjoin ! $ nothing ! $ fjoin ! $ nothing ! $ fjoin ! $ frame ! $ owned ! u8 (Is u8) (uint-makes 𝓤 H A W w8) r _ (refl, small) $ done !
 
-  module _ (C : Calls 𝓤 H) (Λ : Loops 𝓤 H) (fm : FmC 𝓤 H (W .laws) C) (known₁ : Triple 𝓤 (C #records·files·write-records) (Inner 𝓤 H A mem run)) (known₂ : Triple 𝓤 (C #tiwzerand·tell·written) (Tells 𝓤 H A mem run)) where
+  module _ (C : Calls 𝓤 H) (Λ : Loops 𝓤 H) (fm : FmC 𝓤 H (W .laws) C) (known₁ : Triple 𝓤 (C #records·files·write-records) (Inner 𝓤 H A mem run)) (known₂ : Triple 𝓤 (C #tell·written) (Tells 𝓤 H A mem run)) where
     walk : ent 𝓤 (onEntry 𝓤 H A entry.signature (κ₁, (κ₃, (κ₄, (κ₅, (κ₆, (κ₇, (κ₁₄, (κ₁₅, tt)))))))) (q₁, (q₃, (q₄, (q₅, (q₆, (q₇, (q₁₄, (q₁₅, tt)))))))) a vals) (WpFn 𝓤 H C Λ code.function (v₁ ∷ v₂ ∷ v₃ ∷ v₄ ∷ v₅ ∷ v₆ ∷ v₇ ∷ vint w64 wires ∷ vint w64 n-ands ∷ vint w64 n-imuls ∷ vint w64 n-bmuls ∷ vint w64 n-zeros ∷ vint w64 n-linears ∷ v₁₄ ∷ v₁₅ ∷ []) Post)
     walk =
         qed W ((‵ (flft κ₁ q₁) ⊛ ‵ (flft κ₃ q₃) ⊛ ‵ (flft κ₄ q₄) ⊛ ‵ (flft κ₅ q₅) ⊛ ‵ (flft κ₆ q₆) ⊛ ‵ (flft κ₇ q₇) ⊛ ‵ (flft κ₁₄ q₁₄) ⊛ ‵ (flft κ₁₅ q₁₅) ⊛ ‵ ftrue) ∷ ‵ (owns (ShrSlice (named 0) κ₁ u64 ∷ ShrSlice (named 0) κ₁ u64 ∷ ShrSlice (named 1) κ₃ u64 ∷ ShrSlice (named 2) κ₄ u64 ∷ ShrSlice (named 3) κ₅ u64 ∷ ShrSlice (named 4) κ₆ u64 ∷ ShrSlice (named 5) κ₇ R ∷ usize ∷ usize ∷ usize ∷ usize ∷ usize ∷ usize ∷ MutSlice (named 6) κ₁₄ u8 ∷ MutSlice (named 7) κ₁₅ u64 ∷ []) a vals) ∷ []) ∵
@@ -182,7 +183,7 @@ module _ {M : Type 1} (𝓤 : URA M) (H : Heap 𝓤) (A : Atoms 𝓤) (W : Given
         by ! (exits r (ws .1 .1 .1 .1 .1 .1 .1 .1 .0) (vs .1 .0) (is₂ .1) k₁₄ k₁₅ (record { answer = answer; writes = f; gives = g }))))))))))))))))))))))))))))))))))))
 
 module _ {M : Type 1} (𝓤 : URA M) (H : Heap 𝓤) (A : Atoms 𝓤) (W : Given 𝓤 H A) (mem : Memory → SProp 𝓤) (run : Routine → Fun 𝓤) where
-  entry-walks : (C : Calls 𝓤 H) (Λ : Loops 𝓤 H) → FmC 𝓤 H (W .laws) C → Triple 𝓤 (C #records·files·write-records) (Inner 𝓤 H A mem run) → Triple 𝓤 (C #tiwzerand·tell·written) (Tells 𝓤 H A mem run)
+  entry-walks : (C : Calls 𝓤 H) (Λ : Loops 𝓤 H) → FmC 𝓤 H (W .laws) C → Triple 𝓤 (C #records·files·write-records) (Inner 𝓤 H A mem run) → Triple 𝓤 (C #tell·written) (Tells 𝓤 H A mem run)
       → Walks 𝓤 H A entry.ended stayed (WpFn 𝓤 H C Λ code.function) (entry.clauses 𝓤 H A mem run)
   entry-walks C Λ fm known₁ known₂ = walked 𝓤 H A entry.ended stayed (entry.clauses 𝓤 H A mem run) (WpFn 𝓤 H C Λ code.function)
       (λ κs. (slice-vals, (slice-vals, (slice-vals, (slice-vals, (slice-vals, (slice-vals, (slice-vals, (uint-vals w64, (uint-vals w64, (uint-vals w64, (uint-vals w64, (uint-vals w64, (uint-vals w64, (slice-vals, (slice-vals, tt))))))))))))))))
@@ -191,7 +192,7 @@ module _ {M : Type 1} (𝓤 : URA M) (H : Heap 𝓤) (A : Atoms 𝓤) (W : Given
       walk 𝓤 H A W mem run (κs .0) (κs .1 .0) (κs .1 .1 .0) (κs .1 .1 .1 .0) (κs .1 .1 .1 .1 .0) (κs .1 .1 .1 .1 .1 .0) (κs .1 .1 .1 .1 .1 .1 .0) (κs .1 .1 .1 .1 .1 .1 .1 .0) (qs .0) (qs .1 .0) (qs .1 .1 .0) (qs .1 .1 .1 .0) (qs .1 .1 .1 .1 .0) (qs .1 .1 .1 .1 .1 .0) (qs .1 .1 .1 .1 .1 .1 .0) (qs .1 .1 .1 .1 .1 .1 .1 .0) (a .0) (a .1 .0) (a .1 .1 .0) (a .1 .1 .1 .0) (a .1 .1 .1 .1 .0) (a .1 .1 .1 .1 .1 .0) (a .1 .1 .1 .1 .1 .1 .0) (a .1 .1 .1 .1 .1 .1 .1 .0) (a .1 .1 .1 .1 .1 .1 .1 .1 .0) (a .1 .1 .1 .1 .1 .1 .1 .1 .1 .0) (a .1 .1 .1 .1 .1 .1 .1 .1 .1 .1 .0) (a .1 .1 .1 .1 .1 .1 .1 .1 .1 .1 .1 .0) (a .1 .1 .1 .1 .1 .1 .1 .1 .1 .1 .1 .1 .0) (a .1 .1 .1 .1 .1 .1 .1 .1 .1 .1 .1 .1 .1 .0) (a .1 .1 .1 .1 .1 .1 .1 .1 .1 .1 .1 .1 .1 .1 .0)
       (are .0 .0 .1) (are .1 .0 .0 .1) (are .1 .1 .0 .0 .1) (are .1 .1 .1 .0 .0 .1) (are .1 .1 .1 .1 .0 .0 .1) (are .1 .1 .1 .1 .1 .0 .0 .1) (are .1 .1 .1 .1 .1 .1 .0 .0 .1) (are .1 .1 .1 .1 .1 .1 .1 .0 .1) (are .1 .1 .1 .1 .1 .1 .1 .1 .0 .1) (are .1 .1 .1 .1 .1 .1 .1 .1 .1 .0 .1) (are .1 .1 .1 .1 .1 .1 .1 .1 .1 .1 .0 .1) (are .1 .1 .1 .1 .1 .1 .1 .1 .1 .1 .1 .0 .1) (are .1 .1 .1 .1 .1 .1 .1 .1 .1 .1 .1 .1 .0 .1) (are .1 .1 .1 .1 .1 .1 .1 .1 .1 .1 .1 .1 .1 .0 .0 .1) (are .1 .1 .1 .1 .1 .1 .1 .1 .1 .1 .1 .1 .1 .1 .0 .0 .1) C Λ fm known₁ known₂))
 
-entry-meets : {M : Type 1} (𝓤 : URA M) (H : Heap 𝓤) (A : Atoms 𝓤) → Given 𝓤 H A → (mem : Memory → SProp 𝓤) (run : Routine → Fun 𝓤) (𝓣 : Tables 𝓤 H) → Triple 𝓤 (𝓣 .C #records·files·write-records) (Inner 𝓤 H A mem run) → Triple 𝓤 (𝓣 .C #tiwzerand·tell·written) (Tells 𝓤 H A mem run)
+entry-meets : {M : Type 1} (𝓤 : URA M) (H : Heap 𝓤) (A : Atoms 𝓤) → Given 𝓤 H A → (mem : Memory → SProp 𝓤) (run : Routine → Fun 𝓤) (𝓣 : Tables 𝓤 H) → Triple 𝓤 (𝓣 .C #records·files·write-records) (Inner 𝓤 H A mem run) → Triple 𝓤 (𝓣 .C #tell·written) (Tells 𝓤 H A mem run)
     → Meets 𝓤 H A entry.signature (WpFn 𝓤 H (𝓣 .C) (𝓣 .Λ) code.function) (entry.spec 𝓤 H A mem run)
 entry-meets 𝓤 H A W mem run 𝓣 known₁ known₂ =
     walk-meets 𝓤 H A entry.ended stayed W (goes-dropped 𝓤 H A W 8 (shrSliceOf (0 ∷ []) tt (plain (λ _. u64))) yes (λ κs x f. refl), (goes-dropped 𝓤 H A W 8 (shrSliceOf (0 ∷ []) tt (plain (λ _. u64))) yes (λ κs x f. refl), (goes-dropped 𝓤 H A W 8 (shrSliceOf (1 ∷ []) tt (plain (λ _. u64))) yes (λ κs x f. refl), (goes-dropped 𝓤 H A W 8 (shrSliceOf (2 ∷ []) tt (plain (λ _. u64))) yes (λ κs x f. refl), (goes-dropped 𝓤 H A W 8 (shrSliceOf (3 ∷ []) tt (plain (λ _. u64))) yes (λ κs x f. refl), (goes-dropped 𝓤 H A W 8 (shrSliceOf (4 ∷ []) tt (plain (λ _. u64))) yes (λ κs x f. refl), (goes-dropped 𝓤 H A W 8 (shrSliceOf (5 ∷ []) tt (plain (λ _. R))) yes (λ κs x f. refl), (goes-dropped 𝓤 H A W 8 (plain (λ _. usize)) yes (λ κs x f. refl), (goes-dropped 𝓤 H A W 8 (plain (λ _. usize)) yes (λ κs x f. refl), (goes-dropped 𝓤 H A W 8 (plain (λ _. usize)) yes (λ κs x f. refl), (goes-dropped 𝓤 H A W 8 (plain (λ _. usize)) yes (λ κs x f. refl), (goes-dropped 𝓤 H A W 8 (plain (λ _. usize)) yes (λ κs x f. refl), (goes-dropped 𝓤 H A W 8 (plain (λ _. usize)) yes (λ κs x f. refl), (goes-gave-slice 𝓤 H A W 8 6 tt (plain (λ _. u8)), (goes-gave-slice 𝓤 H A W 8 7 tt (plain (λ _. u64)), tt))))))))))))))) (entry.clauses 𝓤 H A mem run)
@@ -204,4 +205,4 @@ tiwzerand-write-records-spec 𝓤 H 𝓜 𝓖 𝓡 =
     (tables 𝓤 H 𝓜 𝓡 code.env .C) (tables 𝓤 H 𝓜 𝓡 code.env .Λ) #tiwzerand·by-records·tiwzerand-write-records code.function (code.unfolded 𝓤 H 𝓜 𝓡)
     (entry-meets 𝓤 H (𝓖 .A) (givenOf 𝓤 H 𝓜 𝓖) (𝓜 .mem) (𝓡 .run) (tablesOf 𝓤 H 𝓜 (tables 𝓤 H 𝓜 𝓡 code.env))
     (cited 𝓤 H (Inner 𝓤 H (𝓖 .A) (𝓜 .mem) (𝓡 .run)) 𝓜 𝓡 code.env #records·files·write-records inner-def.routine code.calls-records·files·write-records (inner-thm.met 𝓤 H 𝓜 𝓖 𝓡))
-    (cited 𝓤 H (Tells 𝓤 H (𝓖 .A) (𝓜 .mem) (𝓡 .run)) 𝓜 𝓡 code.env #tiwzerand·tell·written tells-def.routine code.calls-tiwzerand·tell·written (tells-thm.met 𝓤 H 𝓜 𝓖 𝓡)))
+    (cited 𝓤 H (Tells 𝓤 H (𝓖 .A) (𝓜 .mem) (𝓡 .run)) 𝓜 𝓡 code.env #tell·written tells-def.routine code.calls-tell·written (tells-thm.met 𝓤 H 𝓜 𝓖 𝓡)))
