@@ -11,7 +11,6 @@ use Rattle.shift.specs.declared.ShiftVariant.the-variants.{Sll, Slr, Sar, Rotr,
 use Rattle.shift.specs.declared.Shift.{Shift}
 use Rattle.shift.specs.Shifts.{shiftAt, by}
 use Rattle.legraph.specs.Tables.{useAt, userAt}
-use Rattle.commit_set.specs.declared.ShiftSummary.{ShiftSummary}
 use Rattle.commit_set.specs.declared.CommitSetCx.{CommitSetCx}
 use Rattle.commit_set.specs.declared.Decision.{Decision}
 use Rattle.commit_set.specs.Runs.{plus, fresh, join, joinAll}
@@ -39,12 +38,12 @@ module _ (st : ℕ → Decision) (u : ℕ) where
   in-definition h = in-user (u / 65536 % 65536) (shiftAt (u % 65536)) h
 
 -- one more sum: m is whether one before had more than one run
-pub one-more : (c : CommitSetCx) (ss : List Shift) (j : ℕ) (s : Shift) → drop j ss ≡ s ∷ drop (j + 1) ss → {r : ShiftSummary} → r ≡ plus (c .shifts) s
-    → (m m′ x y : Bool) → m′ ≡ (m || ltb 1 (r .len)) → (m || (termsOver 1 c (drop j ss) || y)) ≡ x → (m′ || (termsOver 1 c (drop (j + 1) ss) || y)) ≡ x
+pub one-more : (c : CommitSetCx) (ss : List Shift) (j : ℕ) (s : Shift) → drop j ss ≡ s ∷ drop (j + 1) ss → {r : ℕ} → r ≡ plus (c .shifts) s .len
+    → (m m′ x y : Bool) → m′ ≡ (m || ltb 1 r) → (m || (termsOver 1 c (drop j ss) || y)) ≡ x → (m′ || (termsOver 1 c (drop (j + 1) ss) || y)) ≡ x
 one-more c ss j s e {r = r} p m m′ x y q k =
     ap (λ (b : Bool). b || (termsOver 1 c (drop (j + 1) ss) || y)) q
-    ∙ moved m (ltb 1 (r .len)) (termsOver 1 c (drop (j + 1) ss)) y
-    ∙ ap (λ (t : ShiftSummary). m || ((ltb 1 (t .len) || termsOver 1 c (drop (j + 1) ss)) || y)) p
+    ∙ moved m (ltb 1 r) (termsOver 1 c (drop (j + 1) ss)) y
+    ∙ ap (λ (t : ℕ). m || ((ltb 1 t || termsOver 1 c (drop (j + 1) ss)) || y)) p
     ∙ ap (λ (l : List Shift). m || (termsOver 1 c l || y)) (sym e) ∙ k
   where
     moved : (a b d f : Bool) → ((a || b) || (d || f)) ≡ (a || ((b || d) || f))

@@ -12,7 +12,6 @@ use Rattle.shift.specs.Shifts.{shiftAt}
 use Rattle.operand.specs.Numbers.{Term, termOf}
 use Rattle.lower.proofs.Firsts.{drop-step}
 use Rattle.lower.specs.Lists.{someOf}
-use Rattle.commit_set.specs.declared.ShiftSummary.{ShiftSummary}
 use Rattle.commit_set.specs.declared.CommitSetCx.{CommitSetCx}
 use Rattle.commit_set.specs.Runs.{plus}
 use Rattle.commit_set.specs.Decision.{MAX_TERM_GROWTH, shiftsOf, termOver, someOver, tooDeep, commits}
@@ -40,29 +39,29 @@ module _ {cs rest : List CommitSetCx} {c : CommitSetCx} (e : cs ≡ c ∷ rest) 
 pub shifts-length : (ts : List ℕ) → length (shiftsOf (map termOf ts)) ≡ length ts
 shifts-length ts = length-map (map termOf ts) (λ (t : Term). shiftAt (t .inner)) ∙ length-map ts termOf
 
--- the term at j is passed; r is its sum with the use
-module _ (c : CommitSetCx) (ss : List Shift) (j : ℕ) (s : Shift) (e : drop j ss ≡ s ∷ drop (j + 1) ss) {r : ShiftSummary} (p : r ≡ plus (c .shifts) s) where
-  here : (n : ℕ) → termsOver n c (drop j ss) ≡ (ltb n (r .len) || termsOver n c (drop (j + 1) ss))
-  here n = ap (termsOver n c) e ∙ ap (λ (q : ShiftSummary). ltb n (q .len) || termsOver n c (drop (j + 1) ss)) (sym p)
+-- the term at j is passed; r is how many runs its sum with the use has
+module _ (c : CommitSetCx) (ss : List Shift) (j : ℕ) (s : Shift) (e : drop j ss ≡ s ∷ drop (j + 1) ss) {r : ℕ} (p : r ≡ plus (c .shifts) s .len) where
+  here : (n : ℕ) → termsOver n c (drop j ss) ≡ (ltb n r || termsOver n c (drop (j + 1) ss))
+  here n = ap (termsOver n c) e ∙ ap (λ (q : ℕ). ltb n q || termsOver n c (drop (j + 1) ss)) (sym p)
 
-  pub pass : (n : ℕ) (x y : Bool) → r .len ≤ n → x ≡ (termsOver n c (drop j ss) || y) → x ≡ (termsOver n c (drop (j + 1) ss) || y)
+  pub pass : (n : ℕ) (x y : Bool) → r ≤ n → x ≡ (termsOver n c (drop j ss) || y) → x ≡ (termsOver n c (drop (j + 1) ss) || y)
   pass n x y h k =
-      let z : termsOver n c (drop j ss) ≡ termsOver n c (drop (j + 1) ss) = here n ∙ rw (le-ltb n (r .len) h) in
+      let z : termsOver n c (drop j ss) ≡ termsOver n c (drop (j + 1) ss) = here n ∙ rw (le-ltb n r h) in
       k ∙ ap (λ (b : Bool). b || y) z
 
-  pub hit : (n : ℕ) (x y : Bool) → n < r .len → x ≡ (termsOver n c (drop j ss) || y) → x ≡ true
+  pub hit : (n : ℕ) (x y : Bool) → n < r → x ≡ (termsOver n c (drop j ss) || y) → x ≡ true
   hit n x y h k =
-      let z : termsOver n c (drop j ss) ≡ true = here n ∙ rw (lt-ltb n (r .len) h) in
+      let z : termsOver n c (drop j ss) ≡ true = here n ∙ rw (lt-ltb n r h) in
       k ∙ ap (λ (b : Bool). b || y) z
 
-  pub more : (m m′ x y : Bool) → 1 < r .len → m′ ≡ true → (m || (termsOver 1 c (drop j ss) || y)) ≡ x → (m′ || (termsOver 1 c (drop (j + 1) ss) || y)) ≡ x
+  pub more : (m m′ x y : Bool) → 1 < r → m′ ≡ true → (m || (termsOver 1 c (drop j ss) || y)) ≡ x → (m′ || (termsOver 1 c (drop (j + 1) ss) || y)) ≡ x
   more m m′ x y h q k =
-      let z : termsOver 1 c (drop j ss) ≡ true = here 1 ∙ rw (lt-ltb 1 (r .len) h) in
+      let z : termsOver 1 c (drop j ss) ≡ true = here 1 ∙ rw (lt-ltb 1 r h) in
       rw q (sym (or-true m y) ∙ ap (λ (b : Bool). m || (b || y)) (sym z) ∙ k)
 
-  pub same : (m m′ x y : Bool) → r .len ≤ 1 → m′ ≡ m → (m || (termsOver 1 c (drop j ss) || y)) ≡ x → (m′ || (termsOver 1 c (drop (j + 1) ss) || y)) ≡ x
+  pub same : (m m′ x y : Bool) → r ≤ 1 → m′ ≡ m → (m || (termsOver 1 c (drop j ss) || y)) ≡ x → (m′ || (termsOver 1 c (drop (j + 1) ss) || y)) ≡ x
   same m m′ x y h q k =
-      let z : termsOver 1 c (drop j ss) ≡ termsOver 1 c (drop (j + 1) ss) = here 1 ∙ rw (le-ltb 1 (r .len) h) in
+      let z : termsOver 1 c (drop j ss) ≡ termsOver 1 c (drop (j + 1) ss) = here 1 ∙ rw (le-ltb 1 r h) in
       rw q (ap (λ (b : Bool). m || (b || y)) (sym z) ∙ k)
 
 -- the terms as numbers

@@ -8,10 +8,12 @@ ghost use lib.ListN.{length, getD};
 ghost use Rattle.shift.specs.Shifts.{shiftAt};
 ghost use Rattle.operand.specs.Numbers.{termOf};
 ghost use Rattle.legraph.specs.Tables.{useAt, listed, Linked};
+ghost use Rattle.commit_set.specs.Runs.{plus};
 ghost use Rattle.commit_set.specs.Decision.{contextOf, shiftsOf, decide};
 ghost use Rattle.commit_set.specs.Numbers.{stateAt};
 use crate::CommitSetCx;
 use crate::Decision;
+use crate::ShiftSummary;
 use operand::LinDefId;
 use shift::Shift;
 use shift::ShiftVariant;
@@ -53,6 +55,17 @@ fn context_of(u: u64, decisions: &[u64]) -> CommitSetCx
     crate::numbers::context_below(decision_at(decisions, d), shift)
 }
 
+// How many runs the path has with the shift of number `n` more inside. An identity, as most are, adds none.
+fn len_with(path: ShiftSummary, n: u64) -> u8
+    ensures { λ r. ⌜ r ≡ plus path (shiftAt n) .len ⌝ }
+{
+    if n % 64 == 0 {
+        return path.len;
+    }
+    let sum = path.with(shift_at(n));
+    sum.len
+}
+
 fn more_than_one(many: bool, len: u8) -> bool
     ensures { λ r. ⌜ r ≡ (many || ltb 1 len) ⌝ }
 {
@@ -77,8 +90,7 @@ pub fn decide(ts: &[u64], first: usize, uses: &[u64], decisions: &[u64], slots: 
         let path = cx.shifts;
         let mut j = 0;
         while j < ts.len() {
-            let sum = path.with(shift_at(operand::term::inner(ts[j])));
-            let len = sum.len;
+            let len = len_with(path, operand::term::inner(ts[j]));
             many = more_than_one(many, len);
             if slots < len {
                 over = true;

@@ -155,7 +155,7 @@ fn shifts(t: u64) -> u64
 }
 
 // The mask pulled back through the shift of number `s`. Most shifts of terms are identities (of amount 0), which leave a mask as it is.
-fn pull(s: u64, mask: u64) -> u64
+pub fn pull(s: u64, mask: u64) -> u64
     requires { ⌜ validNumber s ≡ true ⌝ }
     ensures { λ r. ⌜ r ≡ pulled (shiftAt s) mask ⌝ }
 {

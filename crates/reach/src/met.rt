@@ -19,8 +19,7 @@ fn pull_term(t: u64, m: u64, masks: &mut [u64])
     ensures { λ r. ⌜ now (masks .exit) ≡ pullTerm m (termOf t) (now (masks .entry)) ⌝ }
 {
     let w = operand::term::wire(t);
-    let s = shift::valid::from_index(operand::term::inner(t));
-    let p = alive::pulled(s, m);
+    let p = patch::expand::pull(operand::term::inner(t), m);
     let i = w.0 as usize;
     masks[i] = masks[i] | p;
 }

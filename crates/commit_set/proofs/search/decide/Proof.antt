@@ -1,5 +1,5 @@
 -- What is to be found is said of the uses and the terms that are left; a sum over the slots commits at once. Assumes nothing.
-use Prim.Native.Nat.{_+_, _-_, _≤_}
+use Prim.Native.Nat.{ℕ, _+_, _-_, _≤_}
 use mathlib.Core.Path.{_≡_, refl, sym, ap, _∙_, ap₂}
 use mathlib.Core.Logic.{⊎-elim}
 use mathlib.Core.List.{map}
@@ -14,6 +14,7 @@ use Rattle.commit_set.specs.Numbers.{stateAt}
 use Rattle.commit_set.specs.Decision.{contextOf, shiftsOf, someOver}
 use Rattle.commit_set.specs.Runs.{join, joinAll, plus}
 use Rattle.commit_set.specs.declared.CommitSetCx.{CommitSetCx}
+use Rattle.commit_set.specs.declared.ShiftSummary.{ShiftSummary}
 use Rattle.commit_set.proofs.Joining.{none-join, join-step}
 use Rattle.commit_set.proofs.Searching.{one-more, all-done, left-at}
 use Rattle.commit_set.proofs.Seeking.{termsOver, enter, enter-many, pass, hit, leave, leave-many, shift-at, shifts-length}
@@ -74,29 +75,26 @@ shared-slice-read-inner c = search needs
 inner-requires : tie.Need-inner-requires Inv-loop μ-loop Inv-out μ-out
 inner-requires c κs = search needs
 
-shift-at-requires : tie.Need-shift-at-requires Inv-loop μ-loop Inv-out μ-out
-shift-at-requires c κs = search needs
-
-with-requires : tie.Need-with-requires Inv-loop μ-loop Inv-out μ-out
-with-requires c κs = search needs
+len-with-requires : tie.Need-len-with-requires Inv-loop μ-loop Inv-out μ-out
+len-with-requires c κs = search needs
 
 more-than-one-requires : tie.Need-more-than-one-requires Inv-loop μ-loop Inv-out μ-out
 more-than-one-requires c κs = search needs
 
 add-j : tie.Need-add-j Inv-loop μ-loop Inv-out μ-out
-add-j c = let s = c .before .before .before .before .before .before .before .before .before .before .before .before .before .before .before .before .before in omega (arith, c .before .before .before .before .before .before .loop-test .taken, s .pre .0)
+add-j c = let s = c .before .before .before .before .before .before .before .before .before .before .before .before .before .before .before .before in omega (arith, c .before .before .before .before .before .loop-test .taken, s .pre .0)
 
 loop-less : tie.Need-loop-less Inv-loop μ-loop Inv-out μ-out
 loop-less c = search needs
 
 loop-again : tie.Need-loop-again Inv-loop μ-loop Inv-out μ-out
-loop-again c = let s = c .before .before .before .before .before .before .before .before .before .before .before .before .before .before .before .before .before in let l = c .before .before .before .before .before .before .before .loop in let u = getD (s .args .uses .now) (c .before .before .before .before .before .before .before .before .before .before .before .before .before .out .h - 1) 0 in
+loop-again c = let s = c .before .before .before .before .before .before .before .before .before .before .before .before .before .before .before .before in let l = c .before .before .before .before .before .before .loop in let u = getD (s .args .uses .now) (c .before .before .before .before .before .before .before .before .before .before .before .before .out .h - 1) 0 in
     let x : CommitSetCx = contextOf (stateAt (s .args .decisions .now)) (useAt u) in
     let ss = shiftsOf (map termOf (s .args .ts .now)) in
     let t = shiftAt (termOf (getD (s .args .ts .now) (l .j) 0) .inner) in
-    let e = shift-at (s .args .ts .now) (l .j) (c .before .before .before .before .before .before .loop-test .taken) in
-    let p : c .before .before .with .result ≡ plus (x .shifts) t = c .before .before .with .ensures ∙ ap₂ plus (ap (λ (y : CommitSetCx). y .shifts) (c .before .before .before .before .before .before .before .before .before .before .context-of .ensures)) (c .before .before .before .shift-at .ensures ∙ ap shiftAt (c .before .before .before .before .inner .ensures)) in
-    (omega (arith, c .before .before .before .before .before .before .loop-test .taken), l .inv .1, pass x ss (l .j) t e p (s .args .slots) _ _ (c .if1 .left) (l .inv .2), one-more x ss (l .j) t e p (l .many) _ _ _ (c .before .more-than-one .ensures) (l .inv .3))
+    let e = shift-at (s .args .ts .now) (l .j) (c .before .before .before .before .before .loop-test .taken) in
+    let p : c .before .before .len-with .result ≡ plus (x .shifts) t .len = c .before .before .len-with .ensures ∙ ap₂ (λ (r : ShiftSummary) (n : ℕ). plus r (shiftAt n) .len) (ap (λ (y : CommitSetCx). y .shifts) (c .before .before .before .before .before .before .before .before .before .context-of .ensures)) (c .before .before .before .inner .ensures) in
+    (omega (arith, c .before .before .before .before .before .loop-test .taken), l .inv .1, pass x ss (l .j) t e p (s .args .slots) _ _ (c .if1 .left) (l .inv .2), one-more x ss (l .j) t e p (l .many) _ _ _ (c .before .more-than-one .ensures) (l .inv .3))
 
 out-less : tie.Need-out-less Inv-loop μ-loop Inv-out μ-out
 out-less c = let s = c .before .before .before .before .before .before .before .before .before .before .before in let o = c .before .before .before .before .before .before .before .out in omega (arith, s .pre .2 .falls (o .h - 1) (omega (arith, o .inv .0, c .before .before .before .before .before .before .out-test .taken)), c .before .before .before .before .before .before .out-test .taken)
@@ -118,7 +116,7 @@ out-again c = let s = c .before .before .before .before .before .before .before 
 
 conclude-requires : tie.Need-conclude-requires Inv-loop μ-loop Inv-out μ-out
 conclude-requires c κs = let s = c .before .before .before .before .before in let o = c .before .out in
-    (s .pre .0, ⊎-elim (λ w. omega (arith, w .4, o .inv .0, s .pre .1)) (λ w. omega (arith, w .16, o .inv .0, s .pre .1, w .0 .taken)) (c .out-test .came))
+    (s .pre .0, ⊎-elim (λ w. omega (arith, w .4, o .inv .0, s .pre .1)) (λ w. omega (arith, w .15, o .inv .0, s .pre .1, w .0 .taken)) (c .out-test .came))
 
 returns : tie.Need-returns Inv-loop μ-loop Inv-out μ-out
 returns c = let s = c .before .before .before .before .before .before in let o = c .before .before .out in
@@ -132,9 +130,9 @@ returns c = let s = c .before .before .before .before .before .before in let o =
     let x : CommitSetCx = contextOf (stateAt (s .args .decisions .now)) (useAt u) in
     let l = w .5 in
     let t = shiftAt (termOf (getD (s .args .ts .now) (l .j) 0) .inner) in
-    let p : w .10 .result ≡ plus (x .shifts) t = w .10 .ensures ∙ ap₂ plus (ap (λ (y : CommitSetCx). y .shifts) (w .2 .ensures)) (w .9 .ensures ∙ ap shiftAt (w .8 .ensures)) in
-    left-at (s .args .slots) all ss (c .before .out-test .over) (c .before .out-test .many) (c .before .out-test .joined) (length (s .args .ts .now)) (c .before .out-test .n) (w .13)
-    (hit x ss (l .j) t (shift-at (s .args .ts .now) (l .j) (w .6 .taken)) p (s .args .slots) _ _ (w .12 .taken) (l .inv .2)))
+    let p : w .9 .result ≡ plus (x .shifts) t .len = w .9 .ensures ∙ ap₂ (λ (r : ShiftSummary) (n : ℕ). plus r (shiftAt n) .len) (ap (λ (y : CommitSetCx). y .shifts) (w .2 .ensures)) (w .8 .ensures) in
+    left-at (s .args .slots) all ss (c .before .out-test .over) (c .before .out-test .many) (c .before .out-test .joined) (length (s .args .ts .now)) (c .before .out-test .n) (w .12)
+    (hit x ss (l .j) t (shift-at (s .args .ts .now) (l .j) (w .6 .taken)) p (s .args .slots) _ _ (w .11 .taken) (l .inv .2)))
     (c .before .out-test .came)
 
 pub decide-spec : {M : Type 1} → statement M
@@ -156,8 +154,7 @@ decide-spec =
     mul-inner
     shared-slice-read-inner
     inner-requires
-    shift-at-requires
-    with-requires
+    len-with-requires
     more-than-one-requires
     add-j
     loop-less

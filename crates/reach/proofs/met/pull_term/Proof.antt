@@ -2,7 +2,7 @@
 use Rattle.reach.proofs.Pulling.{pull-is}
 use Rattle.alive.specs.Masks.{pulled}
 use Rattle.shift.specs.Shifts.{validNumber, shiftAt}
-use Rattle.shift.specs.declared.Shift.{Shift}
+use Prim.Native.Nat.{ℕ}
 use mathlib.Core.Path.{ap, _∙_}
 use borrow.Author.Needs.{needs}
 use Rattle.reach.proofs.met.pull_term.Statement.{statement}
@@ -14,11 +14,8 @@ wire-requires c κs = search needs
 inner-requires : tie.Need-inner-requires
 inner-requires c κs = search needs
 
-from-index-requires : tie.Need-from-index-requires
-from-index-requires c κs = ap validNumber (c .inner .ensures) ∙ c .before .before .before .pre .1
-
-pulled-requires : tie.Need-pulled-requires
-pulled-requires c κs = c .from-index .ensures .1
+pull-requires : tie.Need-pull-requires
+pull-requires c κs = ap validNumber (c .inner .ensures) ∙ c .before .before .before .pre .1
 
 cast-i : tie.Need-cast-i
 cast-i c = search needs
@@ -39,7 +36,7 @@ same-length : tie.Need-same-length
 same-length c = search needs
 
 returns : tie.Need-returns
-returns c = let s = c .before .before .before .before .before .before .before in pull-is (s .args .t) (s .args .m) _ (c .before .before .pulled .result) (s .args .masks .now) (c .before .before .before .before .before .wire .ensures) (c .before .before .pulled .ensures ∙ ap (λ (x : Shift). pulled x (s .args .m)) (c .before .before .before .from-index .ensures .0 ∙ ap shiftAt (c .before .before .before .before .inner .ensures)))
+returns c = let s = c .before .before .before .before .before .before in pull-is (s .args .t) (s .args .m) _ (c .before .before .pull .result) (s .args .masks .now) (c .before .before .before .before .wire .ensures) (c .before .before .pull .ensures ∙ ap (λ (n : ℕ). pulled (shiftAt n) (s .args .m)) (c .before .before .before .inner .ensures))
 
 pub pull-term-spec : {M : Type 1} → statement M
 pull-term-spec =
@@ -47,8 +44,7 @@ pull-term-spec =
     (tie.spec
     wire-requires
     inner-requires
-    from-index-requires
-    pulled-requires
+    pull-requires
     cast-i
     mul-masks
     slice-read-masks
