@@ -26,6 +26,10 @@ fn term_fault(t: u64, wires: usize) -> u8
     if wires <= wire.0 as usize {
         return crate::WIRE;
     }
+    // No shift is spelt: both numbers are 0, and most terms are so.
+    if t < 65536 {
+        return 0;
+    }
     if !is_shift(operand::term::inner(t)) {
         return crate::SHIFT;
     }
