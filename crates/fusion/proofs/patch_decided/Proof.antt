@@ -20,7 +20,7 @@ slice-aggregate-rebuild-3 : tie.Need-slice-aggregate-rebuild-3
 slice-aggregate-rebuild-3 c = search needs
 
 rebuild-requires : tie.Need-rebuild-requires
-rebuild-requires c κs = let s = c .before .before .before .before .before .before .before .before .before .before .before .before .before .before .before .before .before .before .before .before .before in (s .pre .0, (s .pre .1, (length-replicate {A = ℕ} 1024 0, length-replicate {A = ℕ} 16384 0, length-replicate {A = ℕ} 7168 0)))
+rebuild-requires c κs = let s = c .before .before .before .before .before .before .before .before .before .before .before .before .before .before .before .before .before .before .before .before .before in (s .pre .0, (s .pre .1, (length-replicate {A = ℕ} _ 0, length-replicate {A = ℕ} _ 0, length-replicate {A = ℕ} _ 0)))
 
 lacks-room-requires : tie.Need-lacks-room-requires
 lacks-room-requires c κs = search needs
