@@ -8,7 +8,7 @@
  * front of `values`, as far as it reaches. A refusal leaves all that was lent as it was; reading alone puts the offset at values[0].
  * A store keeps what an answer does not fill.
  *
- * Fusing takes up to 0.8 MB of stack and filling back 0.3 MB, so call them in a thread that has 1 MB. There is no global state: threads may
+ * Fusing takes up to 0.7 MB of stack and filling back 0.3 MB, so call them in a thread that has 1 MB. There is no global state: threads may
  * call at the same time.
  */
 #ifndef TIWZERAND_H

@@ -60,7 +60,7 @@ impl System {
 
     /// Fuses: each definition that is worth it is put in the place of the wire that it defines, and the rest is committed.
     ///
-    /// A refusal (TWICE, EMPTY, DOUBLE, CIRCLE or ROOM) hands the system back as it was. It takes up to 0.8 MB of stack: Rust's threads
+    /// A refusal (TWICE, EMPTY, DOUBLE, CIRCLE or ROOM) hands the system back as it was. It takes up to 0.7 MB of stack: Rust's threads
     /// have 2 MB unless told otherwise.
     pub fn fuse(self, slots: Slots) -> Result<Fused, (System, Refusal)> {
         let mut rows = self.0.rows.clone();
