@@ -17,7 +17,7 @@ use Rattle.lower.specs.Stores.{Stands}
 use Rattle.lower.proofs.Alls.{all-unmap}
 use Rattle.lower.proofs.Firsts.{part-step}
 use Rattle.patch.proofs.Spells.{operand-terms}
-use Rattle.patch.specs.Spelling.{source, inlinedNumber, lookBy, look, laid, Looks, Looked, Listed, Entries}
+use Rattle.patch.specs.Spelling.{source, inlinedNumber, lookBy, look, laid, Looks, Entries}
 
 -- ---- a look
 
@@ -47,48 +47,44 @@ module _ (table decisions a b : List ℕ) (nodes : (w : ℕ) → getD table w 0 
 -- ---- the terms of one definition
 
 module _ (table decisions before ts : List ℕ) (at : ℕ) (nodes : (w : ℕ) → getD table w 0 ≤ 1024) (low : 1024 ≤ at) where
-  pub looked-none : Looked table decisions before before ts at 0
-  looked-none = record { long = refl; kept = λ j h. refl; made = λ j h. absurd (omega arith) }
+  pub entries-none : (n : ℕ) → Entries table decisions before before ts at n 0
+  entries-none n = record { long = refl; kept = λ j h. refl; looked = λ j h. absurd (omega arith); listed = λ j h. absurd (omega arith) }
 
-  pub looked-more : (after : List ℕ) (i m : ℕ) → Looked table decisions before after ts at i → at + i < length after → m ≡ look table decisions after (termOf (getD ts i 0))
-      → Looked table decisions before (set after (at + i) m) ts at (i + 1)
-  looked-more after i m l h e = record {
-    long = length-set after (at + i) m ∙ l .long;
-    kept = λ j k. getD-set-other after (at + i) j m 0 (λ z. omega (arith, z)) ∙ l .kept j k;
-    made = λ j k. elim (decLt j i) [
-      | yes p ↦ getD-set-other after (at + i) (at + j) m 0 (λ z. omega (arith, z)) ∙ l .made j p
+  pub entries-more : (after : List ℕ) (n i : ℕ) → Entries table decisions before after ts at n i → i < n → at + 2 * n ≤ length after
+      → Entries table decisions before (set (set after (at + i) (look table decisions after (termOf (getD ts i 0)))) (at + n + i) (laid table decisions (termOf (getD ts i 0)))) ts at n (i + 1)
+  entries-more after n i l h room = record {
+    long = length-set (set after (at + i) m) (at + n + i) e ∙ length-set after (at + i) m ∙ l .long;
+    kept = λ j k. other j (λ z. omega (arith, z)) (λ z. omega (arith, z)) ∙ l .kept j k;
+    looked = λ j k. elim (decLt j i) [
+      | yes p ↦ other (at + j) (λ z. omega (arith, z)) (λ z. omega (arith, z)) ∙ l .looked j p
       | no p ↦ let z : i ≡ j = omega arith in
-          subst (λ (x : ℕ). getD (set after (at + i) m) (at + x) 0 ≡ look table decisions before (termOf (getD ts x 0))) z
-          (getD-set-same after (at + i) m 0 h ∙ e ∙ look-kept table decisions after before nodes (λ x y. l .kept x (omega arith)) (termOf (getD ts i 0)))
+          subst (λ (x : ℕ). getD final (at + x) 0 ≡ look table decisions before (termOf (getD ts x 0))) z
+          (getD-set-other (set after (at + i) m) (at + n + i) (at + i) e 0 (λ q. omega (arith, q)) ∙ getD-set-same after (at + i) m 0 (omega arith)
+          ∙ look-kept table decisions after before nodes (λ x y. l .kept x (omega arith)) (termOf (getD ts i 0)))
+    ];
+    listed = λ j k. elim (decLt j i) [
+      | yes p ↦ other (at + n + j) (λ z. omega (arith, z)) (λ z. omega (arith, z)) ∙ l .listed j p
+      | no p ↦ let z : i ≡ j = omega arith in
+          subst (λ (x : ℕ). getD final (at + n + x) 0 ≡ laid table decisions (termOf (getD ts x 0))) z
+          (getD-set-same (set after (at + i) m) (at + n + i) e 0 (omega (arith, length-set after (at + i) m)))
     ];
   }
+    where
+      m : ℕ
+      m = look table decisions after (termOf (getD ts i 0))
 
-module _ (table decisions before ts : List ℕ) (at : ℕ) where
-  pub listed-none : Listed table decisions before before ts at 0
-  listed-none = record { long = refl; kept = λ j h. refl; made = λ j h. absurd (omega arith) }
+      e : ℕ
+      e = laid table decisions (termOf (getD ts i 0))
 
-  pub listed-more : (after : List ℕ) (i m : ℕ) → Listed table decisions before after ts at i → at + i < length after → m ≡ laid table decisions (termOf (getD ts i 0))
-      → Listed table decisions before (set after (at + i) m) ts at (i + 1)
-  listed-more after i m l h e = record {
-    long = length-set after (at + i) m ∙ l .long;
-    kept = λ j k. getD-set-other after (at + i) j m 0 (λ z. omega (arith, z)) ∙ l .kept j k;
-    made = λ j k. elim (decLt j i) [
-      | yes p ↦ getD-set-other after (at + i) (at + j) m 0 (λ z. omega (arith, z)) ∙ l .made j p
-      | no p ↦ let z : i ≡ j = omega arith in
-          subst (λ (x : ℕ). getD (set after (at + i) m) (at + x) 0 ≡ laid table decisions (termOf (getD ts x 0))) z (getD-set-same after (at + i) m 0 h ∙ e)
-    ];
-  }
+      final : List ℕ
+      final = set (set after (at + i) m) (at + n + i) e
 
--- the one behind the other; the terms and how many they are, told otherwise
-pub entries-by : (table decisions before mid after ts ts′ : List ℕ) (at n : ℕ) → ts ≡ ts′ → length ts ≡ n
-    → Looked table decisions before mid ts at (length ts) → Listed table decisions mid after ts (at + length ts) (length ts) → Entries table decisions before after ts′ at n
-entries-by table decisions before mid after ts ts′ at n e k l m =
-    subst (Entries table decisions before after ts′ at) k (subst (λ (x : List ℕ). Entries table decisions before after x at (length ts)) e (record {
-      long = m .long ∙ l .long;
-      kept = λ j h. m .kept j (omega arith) ∙ l .kept j h;
-      looked = λ j h. m .kept (at + j) (omega arith) ∙ l .made j h;
-      listed = m .made;
-    }))
+      other : (j : ℕ) → (j ≡ at + i → ⊥) → (j ≡ at + n + i → ⊥) → getD final j 0 ≡ getD after j 0
+      other j p q = getD-set-other (set after (at + i) m) (at + n + i) j e 0 q ∙ getD-set-other after (at + i) j m 0 p
+
+-- the terms and how many they are, told otherwise
+pub entries-by : (table decisions before after ts ts′ : List ℕ) (at n : ℕ) → ts ≡ ts′ → length ts ≡ n → Entries table decisions before after ts at (length ts) (length ts) → Entries table decisions before after ts′ at n n
+entries-by table decisions before after ts ts′ at n e k l = subst (λ (x : ℕ). Entries table decisions before after ts′ at x x) k (subst (λ (x : List ℕ). Entries table decisions before after x at (length ts) (length ts)) e l)
 
 module _ (old new : List ℕ) (h : ℕ) (stands : Stands old new h) where
   pub terms-length : length (termsAt old new (operandAt h)) ≡ lengthOf h
@@ -122,7 +118,7 @@ module _ (old new rhss table decisions before : List ℕ) where
   filled-none = record { as-long = refl; front = λ j h. refl; past = omega arith; laid-down = λ e h. absurd (omega arith) }
 
   module _ (nodes : (w : ℕ) → getD table w 0 ≤ 1024) (after after′ : List ℕ) (at d : ℕ) (few : d < 1024) (room : 2048 ≤ length after)
-      (f : Filled after at d) (l : Entries table decisions after after′ (ts d) at (length (ts d))) where
+      (f : Filled after at d) (l : Entries table decisions after after′ (ts d) at (length (ts d)) (length (ts d))) where
     abbrev cell : ℕ
     cell = at + 65536 * length (ts d)
 
@@ -167,11 +163,11 @@ module _ (old new rhss table decisions before : List ℕ) where
 
   -- the same, by the number of the right side
   pub filled-step : ((w : ℕ) → getD table w 0 ≤ 1024) → (after after′ : List ℕ) (at d m : ℕ) → d < 1024 → 2048 ≤ length after → Stands old new (getD rhss d 0) → Filled after at d
-      → Entries table decisions after after′ (ts d) at (lengthOf (getD rhss d 0)) → m ≡ lengthOf (getD rhss d 0) → Filled (set after′ (1024 + d) (at + 65536 * m)) (at + 2 * m) (d + 1)
+      → Entries table decisions after after′ (ts d) at (lengthOf (getD rhss d 0)) (lengthOf (getD rhss d 0)) → m ≡ lengthOf (getD rhss d 0) → Filled (set after′ (1024 + d) (at + 65536 * m)) (at + 2 * m) (d + 1)
   filled-step nodes after after′ at d m few room st f l e =
       let k = terms-length old new (getD rhss d 0) st in
       subst (λ (x : ℕ). Filled (set after′ (1024 + d) (at + 65536 * x)) (at + 2 * x) (d + 1)) (k ∙ sym e)
-      (filled-more nodes after after′ at d few room f (subst (Entries table decisions after after′ (ts d) at) (sym k) l))
+      (filled-more nodes after after′ at d few room f (subst (λ (x : ℕ). Entries table decisions after after′ (ts d) at x x) (sym k) l))
 
   -- what is laid down is what expansion reads
   module _ (nodes : (w : ℕ) → getD table w 0 ≤ 1024) (after : List ℕ) (at n : ℕ) (f : Filled after at n) (few : n ≤ 1024) (room : at ≤ length after) (low : length after < 65536)

@@ -12,7 +12,7 @@
 --   Sees k i o         the mask k takes in just what gets through the shifts i, then o
 --   laid .. u          the entry of a term u of a definition, one number: its shift and its wire where that stands, else its shift, the
 --                      definition in the wire's place, and a mark
---   Looked, Listed     what writing the masks of terms leaves, and their entries; Entries, both; Lookable, what they ask
+--   Entries, Lookable  what writing the masks and the entries of terms leaves, and what it asks
 --   Looks s d          the store of masks has, from 1024 on, where the masks of the terms of each definition begin and how many they are,
 --                      and has them there, and the entries behind them
 --   Opened s d n       what the definition d is opened with, no chain below it longer than n; Openable, of some source with this store
@@ -152,24 +152,12 @@ pub record Looks (s : Source) (d : ℕ) : Type 0 where
   pub masks : (i : ℕ) → i < length (termsIn s d) → getD (s .alive) (looksFrom s d + i) 0 ≡ look (s .table) (s .decisions) (s .alive) (termOf (getD (termsIn s d) i 0))
   pub entries : (i : ℕ) → i < length (termsIn s d) → getD (s .alive) (looksFrom s d + length (termsIn s d) + i) 0 ≡ laid (s .table) (s .decisions) (termOf (getD (termsIn s d) i 0))
 
--- the masks of the first n terms of ts are written from `at` on, and what stands before is left
-pub record Looked (table decisions before after ts : List ℕ) (at n : ℕ) : Type 0 where
+-- the masks of the first i terms of ts, which are n, are written from `at` on, their entries behind all n, and what stands before is left
+pub record Entries (table decisions before after ts : List ℕ) (at n i : ℕ) : Type 0 where
   pub long : length after ≡ length before
   pub kept : (j : ℕ) → j < at → getD after j 0 ≡ getD before j 0
-  pub made : (j : ℕ) → j < n → getD after (at + j) 0 ≡ look table decisions before (termOf (getD ts j 0))
-
--- so with their entries
-pub record Listed (table decisions before after ts : List ℕ) (at n : ℕ) : Type 0 where
-  pub long : length after ≡ length before
-  pub kept : (j : ℕ) → j < at → getD after j 0 ≡ getD before j 0
-  pub made : (j : ℕ) → j < n → getD after (at + j) 0 ≡ laid table decisions (termOf (getD ts j 0))
-
--- the masks of n terms are written from `at` on, and their entries behind them
-pub record Entries (table decisions before after ts : List ℕ) (at n : ℕ) : Type 0 where
-  pub long : length after ≡ length before
-  pub kept : (j : ℕ) → j < at → getD after j 0 ≡ getD before j 0
-  pub looked : (j : ℕ) → j < n → getD after (at + j) 0 ≡ look table decisions before (termOf (getD ts j 0))
-  pub listed : (j : ℕ) → j < n → getD after (at + n + j) 0 ≡ laid table decisions (termOf (getD ts j 0))
+  pub looked : (j : ℕ) → j < i → getD after (at + j) 0 ≡ look table decisions before (termOf (getD ts j 0))
+  pub listed : (j : ℕ) → j < i → getD after (at + n + j) 0 ≡ laid table decisions (termOf (getD ts j 0))
 
 -- what is asked of n definitions whose terms are looked at; a node is no place of the masks of terms
 pub record Lookable (old new rhss table : List ℕ) (n : ℕ) : Type 0 where

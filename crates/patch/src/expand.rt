@@ -7,7 +7,7 @@ ghost use mathlib.Core.Path.{_≡_};
 ghost use mathlib.Core.Bool.{true, false};
 ghost use Prim.Native.Nat.{ℕ, _+_, _-_, _*_, _≤_, _<_};
 ghost use lib.Dec.{eqb};
-ghost use lib.ListN.{length, getD, take, drop};
+ghost use lib.ListN.{length, getD, set, take, drop};
 ghost use lib.Bits.{bitAnd};
 ghost use Rattle.shift.specs.Shifts.{Valid, validNumber, shiftAt};
 ghost use Rattle.operand.specs.Numbers.{Term, termOf, termNumber, operandAt, termsAt, operandOf};
@@ -21,7 +21,7 @@ ghost use Rattle.legraph.specs.Tables.{toldNode};
 ghost use Rattle.legraph.specs.Walked.{rhsIn};
 ghost use Rattle.patch.specs.Expansion.{Within};
 ghost use Rattle.patch.specs.Steps.{put, writeDown};
-ghost use Rattle.patch.specs.Spelling.{Source, source, inPlace, inlinedNumber, spelt, cursorAt, speltTo, innerOf, outerOf, bare, Over, foldedAs, spellUnder, spell, Sees, look, laid, Looked, Listed, Entries, Lookable, Looks, Readable, reading, Opened, Openable, Entered, Enterable};
+ghost use Rattle.patch.specs.Spelling.{Source, source, inPlace, inlinedNumber, spelt, cursorAt, speltTo, innerOf, outerOf, bare, Over, foldedAs, spellUnder, spell, Sees, look, laid, Entries, Lookable, Looks, Readable, reading, Opened, Openable, Entered, Enterable};
 use crate::Cursor;
 use crate::Folded;
 use legraph::Node;
@@ -339,56 +339,36 @@ fn expand_at(
     expand_operand(alive, &mut *out, n, d, over, pull(s, mask), below - 1)
 }
 
-// The mask of a term of a definition.
-fn look(table: &[u16], decisions: &[u64], alive: &[u64], t: u64) -> u64
+// The mask of a term of a definition, at the place `at`, and its entry, at the place `to`: its shift and its wire, or, with a mark above
+// them, its shift and the definition in the wire's place.
+fn lay(table: &[u16], decisions: &[u64], alive: &mut [u64], t: u64, at: usize, to: usize)
     requires { ⌜ validNumber (termOf t .inner) ≡ true ⌝ }
-    ensures { λ r. ⌜ r ≡ look (now (table .entry)) (now (decisions .entry)) (now (alive .entry)) (termOf t) ⌝ }
+    requires { ⌜ (at < length (now alive)) × (to < length (now alive)) ⌝ }
+    ensures { λ r. ⌜ now (alive .exit) ≡ set (set (now (alive .entry)) at (look (now (table .entry)) (now (decisions .entry)) (now (alive .entry)) (termOf t))) to (laid (now (table .entry)) (now (decisions .entry)) (termOf t)) ⌝ }
 {
-    let node = inlined(table, decisions, operand::term::wire(t));
-    let Node::LinDef(d) = node else {
-        return 0xffff_ffff_ffff_ffff;
-    };
-    shift::valid::apply(
-        shift::valid::from_index(operand::term::inner(t)),
-        mask_of(alive, d),
-    )
-}
-
-// The entry of a term of a definition: its shift and its wire, or, marked above them, its shift and the definition in the wire's place.
-fn laid(table: &[u16], decisions: &[u64], t: u64) -> u64
-    ensures { λ r. ⌜ r ≡ laid (now (table .entry)) (now (decisions .entry)) (termOf t) ⌝ }
-{
-    let s = 65536 * operand::term::inner(t);
+    let s = operand::term::inner(t);
     let wire = operand::term::wire(t);
     let node = inlined(table, decisions, wire);
     let Node::LinDef(d) = node else {
-        return s + wire.0 as u64;
+        alive[at] = 0xffff_ffff_ffff_ffff;
+        alive[to] = 65536 * s + wire.0 as u64;
+        return;
     };
-    4294967296 + s + d.0 as u64
+    let m = shift::valid::apply(shift::valid::from_index(s), mask_of(&*alive, d));
+    alive[at] = m;
+    alive[to] = 4294967296 + 65536 * s + d.0 as u64;
 }
 
 fn look_terms(ts: &[u64], table: &[u16], decisions: &[u64], alive: &mut [u64], at: usize)
-    requires { ⌜ (1024 ≤ at) × (at + length (now ts) ≤ length (now alive)) ⌝ }
+    requires { ⌜ (1024 ≤ at) × (at + 2 * length (now ts) ≤ length (now alive)) ⌝ }
     requires { ⌜ All (λ (t : ℕ). validNumber (termOf t .inner) ≡ true) (now ts) ⌝ }
     requires { ⌜ ((w : ℕ) → getD (now table) w 0 ≤ 1024) ⌝ }
-    ensures { λ r. ⌜ Looked (now (table .entry)) (now (decisions .entry)) (now (alive .entry)) (now (alive .exit)) (now (ts .entry)) at (length (now (ts .entry))) ⌝ }
+    ensures { λ r. ⌜ Entries (now (table .entry)) (now (decisions .entry)) (now (alive .entry)) (now (alive .exit)) (now (ts .entry)) at (length (now (ts .entry))) (length (now (ts .entry))) ⌝ }
 {
+    let to = at + ts.len();
     let mut i = 0;
     while i < ts.len() {
-        let m = look(table, decisions, &*alive, ts[i]);
-        alive[at + i] = m;
-        i += 1;
-    }
-}
-
-fn lay_terms(ts: &[u64], table: &[u16], decisions: &[u64], alive: &mut [u64], at: usize)
-    requires { ⌜ at + length (now ts) ≤ length (now alive) ⌝ }
-    ensures { λ r. ⌜ Listed (now (table .entry)) (now (decisions .entry)) (now (alive .entry)) (now (alive .exit)) (now (ts .entry)) at (length (now (ts .entry))) ⌝ }
-{
-    let mut i = 0;
-    while i < ts.len() {
-        let e = laid(table, decisions, ts[i]);
-        alive[at + i] = e;
+        lay(table, decisions, &mut *alive, ts[i], at + i, to + i);
         i += 1;
     }
 }
@@ -407,13 +387,11 @@ fn look_operand<'a>(
     requires { ⌜ All (λ (u : Term). validNumber (u .inner) ≡ true) (operandOf (now old) (now new) h) ⌝ }
     requires { ⌜ (1024 ≤ at) × (at + 2 * lengthOf h ≤ length (now alive)) ⌝ }
     requires { ⌜ ((w : ℕ) → getD (now table) w 0 ≤ 1024) ⌝ }
-    ensures { λ r. ⌜ (r ≡ lengthOf h) × Entries (now (table .entry)) (now (decisions .entry)) (now (alive .entry)) (now (alive .exit)) (termsAt (now (old .entry)) (now (new .entry)) (operandAt h)) at (lengthOf h) ⌝ }
+    ensures { λ r. ⌜ (r ≡ lengthOf h) × Entries (now (table .entry)) (now (decisions .entry)) (now (alive .entry)) (now (alive .exit)) (termsAt (now (old .entry)) (now (new .entry)) (operandAt h)) at (lengthOf h) (lengthOf h) ⌝ }
 {
     let ts = lower::operand_terms(old, new, h);
     look_terms(ts, table, decisions, &mut *alive, at);
-    let m = ts.len();
-    lay_terms(ts, table, decisions, &mut *alive, at + m);
-    m
+    ts.len()
 }
 
 // The masks and the entries of the terms of the first `n` definitions, behind the masks of those, with the places where they begin between.

@@ -15,31 +15,14 @@ look-terms-requires c κs = let s = c .before .before .before .before .before .b
     let k = ap length e ∙ terms-length (s .args .old .now) (s .args .new .now) (s .args .h) (s .pre .0) in
     ((s .pre .1 .1 .0 .0, omega (arith, k, s .pre .1 .1 .0 .1)), (terms-valid (s .args .old .now) (s .args .new .now) (s .args .h) (s .pre .0) (c .before .operand-terms .result .now) e (s .pre .1 .0), s .pre .1 .1 .1))
 
-add-lay-terms : tie.Need-add-lay-terms
-add-lay-terms c = let s = c .before .before .before .before .before .before .before .before .before .before .before in let e = c .before .before .before .before .before .operand-terms .ensures in
-    let k = ap length e ∙ terms-length (s .args .old .now) (s .args .new .now) (s .args .h) (s .pre .0) in
-    omega (arith, k, s .pre .1 .1 .0 .1)
-
-lay-terms-requires : tie.Need-lay-terms-requires
-lay-terms-requires c κs = let s = c .before .before .before .before .before .before .before .before .before .before .before in let e = c .before .before .before .before .before .operand-terms .ensures in
-    let k = ap length e ∙ terms-length (s .args .old .now) (s .args .new .now) (s .args .h) (s .pre .0) in
-    omega (arith, k, s .pre .1 .1 .0 .1, c .before .before .before .look-terms .ensures .long)
-
 same-length : tie.Need-same-length
 same-length c = search needs
 
 returns : tie.Need-returns
-returns c = let s = c .before .before .before .before .before .before .before .before .before .before .before .before .before .before in let e = c .before .before .before .before .before .before .before .before .operand-terms .ensures in
+returns c = let s = c .before .before .before .before .before .before .before .before .before .before in let e = c .before .before .before .before .operand-terms .ensures in
     let k = ap length e ∙ terms-length (s .args .old .now) (s .args .new .now) (s .args .h) (s .pre .0) in
-    (k, entries-by (s .args .table .now) (s .args .decisions .now) (s .args .alive .now) _ _ (c .before .before .before .before .before .before .before .before .operand-terms .result .now) _ (s .args .at) _ e k (c .before .before .before .before .before .before .look-terms .ensures) (c .before .before .lay-terms .ensures))
+    (k, entries-by (s .args .table .now) (s .args .decisions .now) (s .args .alive .now) _ (c .before .before .before .before .operand-terms .result .now) _ (s .args .at) _ e k (c .before .before .look-terms .ensures))
 
 pub look-operand-spec : {M : Type 1} → statement M
 look-operand-spec =
-    tie.close
-    (tie.spec
-    operand-terms-requires
-    look-terms-requires
-    add-lay-terms
-    lay-terms-requires
-    same-length
-    returns)
+    tie.close (tie.spec operand-terms-requires look-terms-requires same-length returns)
