@@ -49,10 +49,12 @@ use Rattle.demand.specs.OnStores.{after, left, flagsLeft, setAside, Undo
 -- value i of an answer
 abbrev at : ℕ → Told → ℕ
 at i (T.refused n) = 0
+at i (T.refusedAt n p) = 0
 at i (given vs) = getD vs i 0
 
 abbrev isGiven : Told → Bool
 isGiven (T.refused n) = false
+isGiven (T.refusedAt n p) = false
 isGiven (given vs) = true
 
 told-given : (k : Counts) → isGiven (toldFused (Done k)) ≡ true

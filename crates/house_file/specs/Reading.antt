@@ -14,7 +14,8 @@
 --   wiresFault         the first field
 --   readOf s           what the bytes s are refused with, or what they count
 --   entriesRead s r    the entries that the answer r to s speaks of: none where it refuses
---   toldRead           number and values of each case
+--   toldRead           number and values of each case: a refusal by its number and the offset of its field; valuesRead, the values of an
+--                      answer
 --
 -- Assumes nothing.
 use Prim.Native.Nat.{ℕ, zero, suc, _+_, _≤_}
@@ -22,7 +23,7 @@ use mathlib.Core.Bool.{cond}
 use mathlib.Core.List.{List, [], _∷_}
 use lib.Dec.{ltb, eqb}
 use lib.ListN.{length, getD}
-use Rattle.word.specs.Answers.{Told, given, refused}
+use Rattle.word.specs.Answers.{Told, given, refusedAt}
 use Rattle.lower.specs.declared.Sizes.{Sizes}
 use Rattle.lower.specs.Accepted.{MAX_WIRES, MAX_DEFINITIONS, MAX_OTHERS, MAX_TERMS}
 use Rattle.lower.specs.Faults.{SHAPE, WIRE, FULL, orElse, firstFault, termFault}
@@ -169,7 +170,9 @@ abbrev pub entriesRead : List ℕ → Read → List Entry
 entriesRead s (Refused number at) = []
 entriesRead s (Done z terms) = entriesAt s (total z) 5
 
+abbrev pub valuesRead : Sizes → ℕ → List ℕ
+valuesRead z terms = z .wires ∷ z .ands ∷ z .imuls ∷ z .bmuls ∷ z .zeros ∷ z .linears ∷ terms ∷ []
+
 abbrev pub toldRead : Read → Told
-toldRead (Refused number at) = refused number
-toldRead (Done z terms) =
-    given (z .wires ∷ z .ands ∷ z .imuls ∷ z .bmuls ∷ z .zeros ∷ z .linears ∷ terms ∷ [])
+toldRead (Refused number at) = refusedAt number at
+toldRead (Done z terms) = given (valuesRead z terms)

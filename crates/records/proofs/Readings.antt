@@ -13,12 +13,12 @@ use Rattle.lower.specs.Lists.{All}
 use Rattle.lower.proofs.Laws.{all-imp}
 use Rattle.house_file.specs.Format.{Entry, LINEAR, ofKind, definitionFrom, systemFrom, EntryOk}
 use Rattle.house_file.specs.Decoding.{entriesAt}
-use Rattle.house_file.specs.Reading.{readOf, entriesRead, toldRead, total}
+use Rattle.house_file.specs.Reading.{readOf, entriesRead, total}
 use Rattle.house_file.specs.declared.Read.{Read}
 use Rattle.house_file.specs.declared.Read.the-variants.{Refused, Done}
 use Rattle.house_fill.specs.Layout.{listLaid, destinationsLaid}
 use Rattle.house_read.specs.Answer.{roomOf, withRoom, ReadIs}
-use Rattle.house_read.proofs.Answers.{read-fits}
+use Rattle.house_read.proofs.Answers.{read-fits, answer-tells}
 use Rattle.house_read.proofs.Exact.{accepted-entries}
 use Rattle.house_read.proofs.Stored.{Laid, list-length, linear-one}
 use Rattle.house_read.proofs.Backs.{answered, entry-laid}
@@ -86,9 +86,10 @@ module _ (s terms ands imuls bmuls zeros ds rs : List ℕ) (len m : ℕ) (e : m 
       ∙ ap₂ {C = Read} withLengths (sym a) (sym b) in
       let few = few-read r (y .answer) in
       let f = y .filled in
+      let e = y .answer ∙ same in
       record {
-        answer = y .answer ∙ same;
-        tells = y .tells ∙ ap toldRead same;
+        answer = e;
+        tells = answer-tells _ _ _ _ _ _ _ _ (readOf s) e;
         filled =
             record {
               terms-are = f .terms-are;

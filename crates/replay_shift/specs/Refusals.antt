@@ -1,7 +1,7 @@
 -- Every shift that can be spelled, in each place where a call takes one: answered or refused with 4. Assumes nothing.
 use Prim.Native.Nat.{ℕ, _/_, _%_}
 use mathlib.Core.List.{List}
-use Rattle.word.specs.Answers.{Told, refused, given, told}
+use Rattle.word.specs.Answers.{Told, refused, refusedAt, given, told}
 use Rattle.shift.specs.declared.Shift.{Shift}
 use Rattle.shift.specs.Shifts.{by, identity, variantAt}
 use Rattle.shift.specs.Answers.{applied, numbered, composed, toldNumber, toldComposed}
@@ -12,6 +12,7 @@ use Rattle.replay_shift.specs.Tallies.{over, counted, none}
 -- the number of a refusal, 0 for an answer
 abbrev pub refusalOf : Told → ℕ
 refusalOf (refused n) = n
+refusalOf (refusedAt n at) = n
 refusalOf (given vs) = 0
 
 abbrev pub noted : Tally → ℕ → Tally

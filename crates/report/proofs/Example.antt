@@ -18,11 +18,11 @@ use Rattle.lower.specs.Accepted.{NoCircle}
 use Rattle.lower.specs.Faults.{termFault, definitionFault}
 use Rattle.house_file.specs.Format.{Entry, arity, systemFrom}
 use Rattle.house_file.specs.Decoding.{u16At, termAt, termsAt, operandsAt, operandsNext, operandsTerms, operandsStart, entryAt, entriesAt}
-use Rattle.house_file.specs.Reading.{headFault, operandFault, operandsFault, destinationFault, payloadFault, counted, fullFault, countsAfter, fieldFault, turnBy, turnOf, readFrom, wiresFault, readOf, toldRead}
+use Rattle.house_file.specs.Reading.{headFault, operandFault, operandsFault, destinationFault, payloadFault, counted, fullFault, countsAfter, fieldFault, turnBy, turnOf, readFrom, wiresFault, readOf}
 use Rattle.house_file.specs.declared.Read.the-variants as R
 use Rattle.house_fill.specs.Layout.{termsLaid, listLaid, destinationsLaid}
 use Rattle.house_read.specs.Answer.{roomOf}
-use Rattle.house_read.proofs.Answers.{room-done}
+use Rattle.house_read.proofs.Answers.{room-done, answer-tells}
 use Rattle.house_read.proofs.Backs.{read-back}
 use Rattle.house_read.proofs.Standings.{read-stands}
 use Rattle.legraph.specs.Uses.{usesIn, usesFrom, usesOf}
@@ -178,7 +178,7 @@ reads : ReadLent bytes (made 4096) (R.Done sizes 3) after-reading
 reads =
     let e = room-done 45 _ _ _ _ _ _ _ is-read roomy in
     record {
-      reads = record { answer = e; tells = ap toldRead e; filled = record { terms-are = refl; ands-are = refl; imuls-are = refl; bmuls-are = refl; zeros-are = refl; dsts-are = refl; rhss-are = refl } };
+      reads = record { answer = e; tells = answer-tells _ _ _ _ _ _ _ _ _ e; filled = record { terms-are = refl; ands-are = refl; imuls-are = refl; bmuls-are = refl; zeros-are = refl; dsts-are = refl; rhss-are = refl } };
       new-same = refl;
       flags-same = refl;
     }

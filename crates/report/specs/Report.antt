@@ -28,6 +28,7 @@ RESULT_TERMS = 4096
 
 abbrev pub lineOf : Told → List ℕ
 lineOf (T.refused number) = refusedText number
+lineOf (T.refusedAt number at) = refusedText number
 lineOf (given vs) = okText vs
 
 -- "fuses with two slots and a result store of 4,096 terms"

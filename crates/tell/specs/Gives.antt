@@ -12,7 +12,7 @@ use mathlib.Core.Path.{_≡_}
 use Prim.Native.Nat.{ℕ}
 use mathlib.Core.List.{List, [], _∷_}
 use lib.Seq.{sets}
-use Rattle.word.specs.Answers.{Told, given, refused}
+use Rattle.word.specs.Answers.{Told, given, refused, refusedAt}
 use Rattle.house_file.specs.Reading.{toldRead}
 use Rattle.house_file.specs.declared.Read.{Read}
 use Rattle.house_file.specs.declared.Read.the-variants.{Refused, Done}
@@ -20,10 +20,12 @@ use Rattle.house_file.specs.declared.Read.the-variants.{Refused, Done}
 abbrev pub number : Told → ℕ
 number (given xs) = 0
 number (refused n) = n
+number (refusedAt n at) = n
 
 abbrev pub laid : List ℕ → Told → List ℕ
 laid vs (given xs) = sets vs 0 xs
 laid vs (refused n) = vs
+laid vs (refusedAt n at) = vs
 
 pub record Gives (t : Told) (vs : List ℕ) (r : ℕ) (vs′ : List ℕ) : Type 0 where
   pub number-is : r ≡ number t

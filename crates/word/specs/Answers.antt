@@ -1,6 +1,6 @@
 -- What is given back, in 01's terms (01, "Numbers given back").
 --
---   Told            a refusal by its number in the table, or an answer by its values
+--   Told            a refusal by its number in the table, that of a reader with the offset of its field too, or an answer by its values
 --   SHIFT           4, "invalid shift number"
 --   checked b vs    the values vs where the shifts handed in are valid, else the refusal 4
 --   told            number and values of each case of `Shifted`
@@ -18,6 +18,7 @@ use Rattle.word.specs.declared.Shifted.the-variants.{Word, Refused}
 
 pub data Told : Type 0 where
   refused : ℕ → Told
+  refusedAt : ℕ → ℕ → Told
   given : List ℕ → Told
 
 abbrev pub SHIFT : ℕ

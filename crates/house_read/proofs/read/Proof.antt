@@ -1,11 +1,11 @@
 -- The first pass gives the answer, 12 comes after it, and only an answer reaches the second pass. Assumes nothing.
-use Rattle.house_read.proofs.Answers.{read-fits, room-done, room-short, room-refused}
+use Rattle.house_read.proofs.Answers.{read-fits, room-done, room-short, room-refused, answer-tells}
 use Rattle.house_read.specs.Answer.{Fits}
 use Rattle.house_fill.specs.Layout.{termsLaid, listLaid, destinationsLaid}
 use Rattle.house_file.specs.declared.Read.the-variants.{Done}
-use Rattle.house_file.specs.Reading.{readOf, toldRead}
+use Rattle.house_file.specs.Reading.{readOf}
 use denote.Ref.{now}
-use mathlib.Core.Path.{_≡_, refl, sym, ap, _∙_}
+use mathlib.Core.Path.{_≡_, refl, sym, _∙_}
 use borrow.Author.Needs.{needs}
 use Rattle.house_read.proofs.read.Statement.{statement}
 use Rattle.house_read.proofs.read.Tie as tie
@@ -64,14 +64,14 @@ returns c = let f = c .before .before .before .before .before .before .before .b
     let t = f .before .before .before .before .before .before .before .before in
     let m = t .before .before in
     let e = room-done _ _ _ _ _ _ _ _ (sound (m .before .before)) (sym (m .has-room .ensures) ∙ t .before .if1 .taken) in
-    record { answer = e; tells = ap toldRead e; filled = rw (t .fields .ensures .0) at (f .fill .ensures) }
+    record { answer = e; tells = answer-tells _ _ _ _ _ _ _ _ _ e; filled = rw (t .fields .ensures .0) at (f .fill .ensures) }
 
 returns-2 : tie.Need-returns-2
 unfolding termsLaid listLaid destinationsLaid
 returns-2 c = let e = room-refused _ _ _ _ _ _ _ _ (sym (c .before .before .before .scan .ensures) ∙ c .before .number .given .1) in
     record {
       answer = e;
-      tells = ap toldRead e;
+      tells = answer-tells _ _ _ _ _ _ _ _ _ e;
       filled = record { terms-are = refl; ands-are = refl; imuls-are = refl; bmuls-are = refl; zeros-are = refl; dsts-are = refl; rhss-are = refl };
     }
 
@@ -80,7 +80,7 @@ unfolding termsLaid listLaid destinationsLaid
 returns-3 c = let e = room-short _ _ _ _ _ _ _ _ (sound (c .before .before .before)) (sym (c .before .has-room .ensures) ∙ c .if1 .left) in
     record {
       answer = e;
-      tells = ap toldRead e;
+      tells = answer-tells _ _ _ _ _ _ _ _ _ e;
       filled = record { terms-are = refl; ands-are = refl; imuls-are = refl; bmuls-are = refl; zeros-are = refl; dsts-are = refl; rhss-are = refl };
     }
 
