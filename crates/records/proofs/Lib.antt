@@ -11,3 +11,4 @@ pub mod Past
 pub mod Wholes
 pub mod Readings
 pub mod Writings
+pub mod Once

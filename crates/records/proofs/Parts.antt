@@ -5,14 +5,14 @@ use native.Mathlib.Nat.{sub-zero}
 use mathlib.Core.List.{List, [], _∷_, _++_, map}
 use native.Mathlib.Omega.{arith}
 use lib.ListN.{length, take, drop, set}
-use lib.Seq.{sets, sets-eq, take-all, take-take, take-append-seam, length-take-le}
+use lib.Seq.{sets, sets-eq, take-all, take-take, take-append-seam, length-take-le, drop-at}
 use Rattle.word.specs.Answers.{Told}
 use Rattle.lower.specs.declared.Sizes.{Sizes}
 use Rattle.lower.specs.Stores.{stores}
 use Rattle.fusion.specs.Left.{lent}
 use Rattle.fusion.specs.Answer.{Fuses}
 use Rattle.fill_back.specs.Filling.{FillsIs}
-use Rattle.records.specs.Records.{dstsOf, rhssOf, unloaded, made, reloaded}
+use Rattle.records.specs.Records.{dstsOf, rhssOf, unloaded, made, reloaded, RestKept}
 use Rattle.records.specs.declared.Definition.{Definition}
 
 -- all of ns stands in front
@@ -35,11 +35,16 @@ module _ (z : Sizes) (old ands imuls bmuls zeros dsts rhss flags ws ws′ : List
       → FillsIs z (stores old [] ands imuls bmuls zeros (take n dsts) (take n rhss)) flags ws ws′ r
   fills-part n h = subst (λ (k : ℕ). FillsIs z (stores old [] ands imuls bmuls zeros (take k dsts) (take k rhss)) flags ws ws′ r) (sub-zero n) h
 
--- a part from 0 on that comes back as ys: the front is ys
-pub back-front : (xs ys : List ℕ) (n : ℕ) → n ≤ length xs → length ys ≡ length (take (n - 0) (drop 0 xs)) → ys ≡ take n (ys ++ drop (n - 0) (drop 0 xs))
-back-front xs ys n h e =
-    let k : length ys ≡ n = e ∙ ap (λ (i : ℕ). length (take i xs)) (sub-zero n) ∙ length-take-le n xs h in
-    sym (ap (λ (i : ℕ). take i (ys ++ drop (n - 0) xs)) (sym k) ∙ take-append-seam ys (drop (n - 0) xs))
+-- a part from 0 on that comes back as ys: the front is ys, and the rest is as it was
+module _ (xs ys : List ℕ) (n : ℕ) (h : n ≤ length xs) (e : length ys ≡ length (take (n - 0) (drop 0 xs))) where
+  part-length : length ys ≡ n
+  part-length = e ∙ ap (λ (i : ℕ). length (take i xs)) (sub-zero n) ∙ length-take-le n xs h
+
+  pub back-front : ys ≡ take n (ys ++ drop (n - 0) (drop 0 xs))
+  back-front = sym (ap (λ (i : ℕ). take i (ys ++ drop (n - 0) xs)) (sym part-length) ∙ take-append-seam ys (drop (n - 0) xs))
+
+  pub back-rest : RestKept n xs (ys ++ drop (n - 0) (drop 0 xs))
+  back-rest = drop-at ys (drop (n - 0) xs) n part-length ∙ ap (λ (i : ℕ). drop i xs) (sub-zero n)
 
 module _ (slots : ℕ) (z : Sizes) (old new ands imuls bmuls zeros dsts rhss flags new′ ands′ imuls′ bmuls′ zeros′ ds′ rs′ flags′ : List ℕ) (t : Told) where
   pub fuses-part : (n : ℕ) → n ≤ length dsts → n ≤ length rhss → length ds′ ≡ length (take (n - 0) (drop 0 dsts)) → length rs′ ≡ length (take (n - 0) (drop 0 rhss))

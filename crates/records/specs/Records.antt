@@ -5,6 +5,7 @@
 --   storesBy           the same of a system that is only read
 --   unloaded           the first m places of a number slice are the records' numbers, and the rest is as it was
 --   reloaded           the first n records are those of the numbers, and the rest is as it was
+--   RestKept n l l′    past its first n places l′ is as l was: "the rest is as it was", of a slice whose first n places are lent on
 --   held               how many records' numbers the arrays take: all, or so many as there may be definitions
 --   looked             how many records are looked at where they stand: so many as count, where that is more than the arrays take
 --   pastFault          the refusal of a system that has too many definitions, all of them there: 3, 4 and 5 come before 6; pastOf, by its stores
@@ -17,7 +18,7 @@ use Prim.Native.Nat.{ℕ}
 use mathlib.Core.Bool.{cond, _&&_}
 use mathlib.Core.List.{List, [], _∷_, map}
 use lib.Dec.{ltb, leb}
-use lib.ListN.{take}
+use lib.ListN.{take, drop}
 use lib.Seq.{sets}
 use Rattle.word.specs.Answers as T
 use Rattle.word.specs.Answers.{Told}
@@ -60,6 +61,9 @@ made (d ∷ ds) (r ∷ rs) = record { rhs = r; dst = d } ∷ made ds rs
 
 abbrev pub reloaded : List Definition → List ℕ → List ℕ → ℕ → List Definition
 reloaded ds dsts rhss n = sets ds 0 (made (take n dsts) (take n rhss))
+
+abbrev pub RestKept : ℕ → List ℕ → List ℕ → Type 0
+RestKept n l l′ = drop n l′ ≡ drop n l
 
 unfoldable pub held : ℕ → ℕ
 held len = cond (ltb MAX_DEFINITIONS len) MAX_DEFINITIONS len

@@ -4,7 +4,7 @@ ghost use lib.ListN.{length, take};
 ghost use Rattle.lower.specs.Stores.{stores};
 ghost use Rattle.house_write.specs.Write.{WriteIs};
 ghost use Rattle.house_read.specs.Answer.{ReadIs};
-ghost use Rattle.records.specs.Records.{dstsOf, rhssOf, storesBy, WritesFirst};
+ghost use Rattle.records.specs.Records.{dstsOf, rhssOf, storesBy, RestKept, WritesFirst};
 use crate::Definition;
 use house_file::Read;
 use house_write::Written;
@@ -117,7 +117,7 @@ pub fn write_records<'a>(
     )
 }
 
-// Reading to the first `len` numbers of each kind.
+// Reading to the first `len` numbers of each kind. The rest of the two slices is as it was.
 fn read_numbers(
     input: &[u8],
     terms: &mut [u64],
@@ -130,7 +130,7 @@ fn read_numbers(
     len: usize,
 ) -> Read
     requires { ⌜ (len ≤ length (now dsts)) × (len ≤ length (now rhss)) ⌝ }
-    ensures { λ r. ⌜ ReadIs (now (input .entry)) (now (terms .entry)) (now (ands .entry)) (now (imuls .entry)) (now (bmuls .entry)) (now (zeros .entry)) (take len (now (dsts .entry))) (take len (now (rhss .entry))) r (now (terms .exit)) (now (ands .exit)) (now (imuls .exit)) (now (bmuls .exit)) (now (zeros .exit)) (take len (now (dsts .exit))) (take len (now (rhss .exit))) ⌝ }
+    ensures { λ r. ⌜ (ReadIs (now (input .entry)) (now (terms .entry)) (now (ands .entry)) (now (imuls .entry)) (now (bmuls .entry)) (now (zeros .entry)) (take len (now (dsts .entry))) (take len (now (rhss .entry))) r (now (terms .exit)) (now (ands .exit)) (now (imuls .exit)) (now (bmuls .exit)) (now (zeros .exit)) (take len (now (dsts .exit))) (take len (now (rhss .exit)))) × (RestKept len (now (dsts .entry)) (now (dsts .exit))) × (RestKept len (now (rhss .entry)) (now (rhss .exit))) ⌝ }
 {
     house_read::read(
         input,

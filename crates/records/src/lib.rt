@@ -2,13 +2,14 @@
 ghost use mathlib.Core.Path.{_≡_};
 ghost use Prim.Native.Nat.{_≤_};
 ghost use mathlib.Core.List.{[], _∷_};
-ghost use lib.ListN.{length, take};
+ghost use lib.ListN.{length, take, replicate};
+ghost use Rattle.lower.specs.Accepted.{MAX_DEFINITIONS};
 ghost use Rattle.lower.specs.Stores.{stores};
 ghost use Rattle.lower.specs.Faults.{orElse, pairsFault, placesFault};
 ghost use Rattle.fusion.specs.Left.{lent};
 ghost use Rattle.fusion.specs.Answer.{toldFused, Fuses};
 ghost use Rattle.fill_back.specs.Filling.{FillsIs};
-ghost use Rattle.records.specs.Records.{dstsOf, rhssOf, storesBy, lentBy, unloaded, reloaded, held, looked, pastFault, FillsFirst, FusesFirst};
+ghost use Rattle.records.specs.Records.{dstsOf, rhssOf, storesBy, lentBy, unloaded, reloaded, RestKept, held, looked, pastFault, FillsFirst, FusesFirst};
 use fusion::Fused;
 use lower::Sizes;
 
@@ -51,12 +52,16 @@ fn reload(defs: &mut [Definition], dsts: &[u16], rhss: &[u64], n: usize)
     }
 }
 
-// Arrays to unload to. Calls make them, since a repeat is a loop, and the functions that lend them are proved by hand.
-fn no_dsts() -> [u16; lower::MAX_DEFINITIONS] {
+// Arrays to unload to. Calls make them: the functions that lend them are proved by hand, and cite a contract for each.
+fn no_dsts() -> [u16; lower::MAX_DEFINITIONS]
+    ensures { λ r. ⌜ r ≡ replicate MAX_DEFINITIONS 0 ⌝ }
+{
     [0u16; lower::MAX_DEFINITIONS]
 }
 
-fn no_rhss() -> [u64; lower::MAX_DEFINITIONS] {
+fn no_rhss() -> [u64; lower::MAX_DEFINITIONS]
+    ensures { λ r. ⌜ r ≡ replicate MAX_DEFINITIONS 0 ⌝ }
+{
     [0u64; lower::MAX_DEFINITIONS]
 }
 
@@ -323,7 +328,7 @@ pub fn fill_back_records(
     )
 }
 
-// Fusing over the first `len` numbers of each kind.
+// Fusing over the first `len` numbers of each kind. The rest of the two slices is as it was.
 fn fuse_numbers(
     old: &[u64],
     new: &mut [u64],
@@ -339,7 +344,7 @@ fn fuse_numbers(
     slots: u64,
 ) -> Fused
     requires { ⌜ (len ≤ length (now dsts)) × (len ≤ length (now rhss)) ⌝ }
-    ensures { λ r. ⌜ Fuses slots z (lent (now (old .entry)) (now (new .entry)) (now (ands .entry)) (now (imuls .entry)) (now (bmuls .entry)) (now (zeros .entry)) (take len (now (dsts .entry))) (take len (now (rhss .entry))) (now (flags .entry))) (lent (now (old .exit)) (now (new .exit)) (now (ands .exit)) (now (imuls .exit)) (now (bmuls .exit)) (now (zeros .exit)) (take len (now (dsts .exit))) (take len (now (rhss .exit))) (now (flags .exit))) (toldFused r) ⌝ }
+    ensures { λ r. ⌜ (Fuses slots z (lent (now (old .entry)) (now (new .entry)) (now (ands .entry)) (now (imuls .entry)) (now (bmuls .entry)) (now (zeros .entry)) (take len (now (dsts .entry))) (take len (now (rhss .entry))) (now (flags .entry))) (lent (now (old .exit)) (now (new .exit)) (now (ands .exit)) (now (imuls .exit)) (now (bmuls .exit)) (now (zeros .exit)) (take len (now (dsts .exit))) (take len (now (rhss .exit))) (now (flags .exit))) (toldFused r)) × (RestKept len (now (dsts .entry)) (now (dsts .exit))) × (RestKept len (now (rhss .entry)) (now (rhss .exit))) ⌝ }
 {
     fusion::fuse(
         old,
@@ -356,7 +361,7 @@ fn fuse_numbers(
     )
 }
 
-// Fusing over the first `m` numbers of each kind, where `n` records were looked at, and `fault` was found.
+// Fusing over the first `m` numbers of each kind, where `n` records were looked at, and `fault` was found. The rest is as it was.
 fn fuse_first(
     old: &[u64],
     new: &mut [u64],
@@ -374,7 +379,7 @@ fn fuse_first(
     slots: u64,
 ) -> Fused
     requires { ⌜ (m ≤ length (now dsts)) × (m ≤ length (now rhss)) ⌝ }
-    ensures { λ r. ⌜ FusesFirst n fault slots z (lent (now (old .entry)) (now (new .entry)) (now (ands .entry)) (now (imuls .entry)) (now (bmuls .entry)) (now (zeros .entry)) (take m (now (dsts .entry))) (take m (now (rhss .entry))) (now (flags .entry))) (lent (now (old .exit)) (now (new .exit)) (now (ands .exit)) (now (imuls .exit)) (now (bmuls .exit)) (now (zeros .exit)) (take m (now (dsts .exit))) (take m (now (rhss .exit))) (now (flags .exit))) (toldFused r) ⌝ }
+    ensures { λ r. ⌜ (FusesFirst n fault slots z (lent (now (old .entry)) (now (new .entry)) (now (ands .entry)) (now (imuls .entry)) (now (bmuls .entry)) (now (zeros .entry)) (take m (now (dsts .entry))) (take m (now (rhss .entry))) (now (flags .entry))) (lent (now (old .exit)) (now (new .exit)) (now (ands .exit)) (now (imuls .exit)) (now (bmuls .exit)) (now (zeros .exit)) (take m (now (dsts .exit))) (take m (now (rhss .exit))) (now (flags .exit))) (toldFused r)) × (RestKept m (now (dsts .entry)) (now (dsts .exit))) × (RestKept m (now (rhss .entry)) (now (rhss .exit))) ⌝ }
 {
     if n != 0 {
         let past = past_fault(

@@ -1,5 +1,6 @@
 -- Each branch is a case of the contract. Assumes nothing.
 use Rattle.records.proofs.Past.{fuses-past, fuses-within}
+use mathlib.Core.Path.{refl}
 use borrow.Author.Needs.{needs}
 use Rattle.records.proofs.fuse_first.Statement.{statement}
 use Rattle.records.proofs.fuse_first.Tie as tie
@@ -35,7 +36,7 @@ same-length-6 : tie.Need-same-length-6
 same-length-6 c = search needs
 
 returns : tie.Need-returns
-returns c = search fuses-past
+returns c = (search fuses-past, refl, refl)
 
 fuse-numbers-requires : tie.Need-fuse-numbers-requires
 fuse-numbers-requires c κs = search needs
@@ -65,7 +66,7 @@ same-length-14 : tie.Need-same-length-14
 same-length-14 c = search needs
 
 returns-2 : tie.Need-returns-2
-returns-2 c = search fuses-within
+returns-2 c = (search fuses-within, search needs, search needs)
 
 pub fuse-first-spec : {M : Type 1} → statement M
 fuse-first-spec =

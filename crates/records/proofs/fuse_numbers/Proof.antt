@@ -1,6 +1,6 @@
--- Fusing over the parts. Assumes nothing.
+-- Fusing over the parts, which come back before the rest. Assumes nothing.
 use borrow.Author.Needs.{needs}
-use Rattle.records.proofs.Parts.{fuses-part}
+use Rattle.records.proofs.Parts.{back-rest, fuses-part}
 use Rattle.records.proofs.fuse_numbers.Statement.{statement}
 use Rattle.records.proofs.fuse_numbers.Tie as tie
 
@@ -50,7 +50,7 @@ same-length-8 : tie.Need-same-length-8
 same-length-8 c = search needs
 
 returns : tie.Need-returns
-returns c = search fuses-part
+returns c = (search fuses-part, search back-rest, search back-rest)
 
 pub fuse-numbers-spec : {M : Type 1} → statement M
 fuse-numbers-spec =

@@ -19,7 +19,7 @@ use Rattle.fusion.specs.declared.Fused.{Fused}
 use Rattle.fusion.proofs.Fused as F
 use Rattle.fusion.proofs.Fused.Laws as F′
 use Rattle.records.specs.Records as S
-use Rattle.records.specs.Records.{dstsOf, rhssOf, lentBy, unloaded, reloaded, FusesFirst}
+use Rattle.records.specs.Records.{dstsOf, rhssOf, lentBy, unloaded, reloaded, RestKept, FusesFirst}
 use Rattle.records.specs.declared.Definition.{Definition}
 use Rattle.records.proofs.Definition as T
 use Rattle.records.proofs.no_dsts as no-dsts
@@ -295,7 +295,7 @@ module _ {M : Type 1} (𝓤 : URA M) (H : Heap 𝓤) (A : Atoms 𝓤) (W : Given
         nothing ! $ move ! (17 ∷ 0 ∷ []) $ join ! $ move ! (5 ∷ 0 ∷ []) $ join ! $ move ! (5 ∷ 0 ∷ []) $ join ! $ move ! (15 ∷ 0 ∷ []) $ join ! $ move ! (15 ∷ 0 ∷ []) $ join ! $ move ! (15 ∷ 0 ∷ []) $ join ! $ move ! (15 ∷ 0 ∷ []) $ join ! $ move ! (15 ∷ 0 ∷ []) $ join ! $ move ! (7 ∷ 0 ∷ []) $ join ! $ move ! (0 ∷ 7 ∷ 13 ∷ 12 ∷ 11 ∷ 10 ∷ 9 ∷ 3 ∷ 1 ∷ 8 ∷ []) $ cut (AskF m n fault l₁₆ l₁₇ ν₃ ν₄ δ₃ δ₄ (zs .1 .1 .0) (zs .1 .1 .1 .0)) (raw (Fuse 𝓤 H A mem run .pre (toF m n fault l₁₆ l₁₇ ν₃ ν₄ δ₃ δ₄ (zs .1 .1 .0) (zs .1 .1 .1 .0))) ∷ []) _ (asked-first m n fault l₁₆ l₁₇ ν₃ ν₄ δ₃ δ₄ (zs .1 .1 .0) (zs .1 .1 .1 .0) (isₘ .1) (isₙ .1) (isf .1) (in-array m (held-in len m em .1) (zs .1 .1 .0) (j₁ ∙ is₁ .1 .0 .1), in-array m (held-in len m em .1) (zs .1 .1 .1 .0) (j₂ ∙ is₂ .1 .0 .1))) $
         calls-at ! fm (Fuse 𝓤 H A mem run) known₄ (toF m n fault l₁₆ l₁₇ ν₃ ν₄ δ₃ δ₄ (zs .1 .1 .0) (zs .1 .1 .1 .0)) (and-then ! (load ! (from ! (stop !)) (look ! 103 refl)) (and-then ! (load ! (from ! (stop !)) (look ! 45 refl)) (and-then ! (load ! (from ! (stop !)) (look ! 41 refl)) (and-then ! (load ! (from ! (stop !)) (look ! 37 refl)) (and-then ! (load ! (from ! (stop !)) (look ! 33 refl)) (and-then ! (load ! (from ! (stop !)) (look ! 29 refl)) (and-then ! (load ! (from ! (stop !)) (look ! 25 refl)) (and-then ! (load ! (from ! (stop !)) (look ! 21 refl)) (and-then ! (load ! (from ! (stop !)) (look ! 81 refl)) (and-then ! (load ! (from ! (stop !)) (look ! 79 refl)) (and-then ! (load ! (from ! (stop !)) (look ! 75 refl)) (and-then ! (load ! (from ! (stop !)) (look ! 17 refl)) (and-then ! (load ! (from ! (stop !)) (look ! 87 refl)) (and-then ! (load ! (from ! (stop !)) (look ! 85 refl)) (no-more !))))))))))))))) (λ u.
         use1 W (later (some (λ (r : Fused). ((‵ (flft κ₁ q₁) ⊛ ‵ (flft κ₂ q₂) ⊛ ‵ (flft κ₃ q₃) ⊛ ‵ (flft κ₄ q₄) ⊛ ‵ (flft κ₅ q₅) ⊛ ‵ (flft κ₆ q₆) ⊛ ‵ (flft (ν₃ ∷ []) fullShare) ⊛ ‵ (flft (ν₄ ∷ []) fullShare) ⊛ ‵ (flft κ₈ q₈) ⊛ ‵ ftrue) ⊛ ‵ (F.the-row .own r (u ∷ []))) ⊛ raw (ensured 𝓤 H A fuse.ended (fuse.clauses 𝓤 H A mem run) (κ₁, (κ₂, (κ₃, (κ₄, (κ₅, (κ₆, (ν₃ ∷ [], (ν₄ ∷ [], (κ₈, tt))))))))) (x₁, (x₂, (x₃, (x₄, (x₅, (x₆, (record { ptr = (l₁₆, 0); name = δ₃; now = (zs .1 .1 .0) }, (record { ptr = (l₁₇, 0); name = δ₄; now = (zs .1 .1 .1 .0) }, (m, (n, (fault, (x₈, (z, (slots, tt)))))))))))))) tt r)))) (id⊢ 𝓤 _) $ await ! tt $ pick ! (λ r. split ! $
-        move ! (1 ∷ []) $ use1 W (some (λ (ws : Unit {0} × (List ℕ × (List ℕ × (List ℕ × (List ℕ × (List ℕ × (List ℕ × (List ℕ × (Unit {0} × (Unit {0} × (Unit {0} × (List ℕ × (Unit {0} × (Unit {0} × Unit {0})))))))))))))). ‵ (lasts fuse.ended (κ₁, (κ₂, (κ₃, (κ₄, (κ₅, (κ₆, (ν₃ ∷ [], (ν₄ ∷ [], (κ₈, tt))))))))) (x₁, (x₂, (x₃, (x₄, (x₅, (x₆, (record { ptr = (l₁₆, 0); name = δ₃; now = (zs .1 .1 .0) }, (record { ptr = (l₁₇, 0); name = δ₄; now = (zs .1 .1 .1 .0) }, (m, (n, (fault, (x₈, (z, (slots, tt)))))))))))))) ws) ⊛ raw (fact 𝓤 (FusesFirst n fault slots z (lent (x₁ .now) (x₂ .now) (x₃ .now) (x₄ .now) (x₅ .now) (x₆ .now) (take m (zs .1 .1 .0)) (take m (zs .1 .1 .1 .0)) (x₈ .now)) (lent (x₁ .now) (ws .1 .0) (ws .1 .1 .0) (ws .1 .1 .1 .0) (ws .1 .1 .1 .1 .0) (ws .1 .1 .1 .1 .1 .0) (take m (ws .1 .1 .1 .1 .1 .1 .0)) (take m (ws .1 .1 .1 .1 .1 .1 .1 .0)) (ws .1 .1 .1 .1 .1 .1 .1 .1 .1 .1 .1 .0)) (toldFused r))))) (id⊢ 𝓤 _) $ pick ! (λ ws. split ! $ move ! (1 ∷ []) $ heard ! (FusesFirst n fault slots z (lent (x₁ .now) (x₂ .now) (x₃ .now) (x₄ .now) (x₅ .now) (x₆ .now) (take m (zs .1 .1 .0)) (take m (zs .1 .1 .1 .0)) (x₈ .now)) (lent (x₁ .now) (ws .1 .0) (ws .1 .1 .0) (ws .1 .1 .1 .0) (ws .1 .1 .1 .1 .0) (ws .1 .1 .1 .1 .1 .0) (take m (ws .1 .1 .1 .1 .1 .1 .0)) (take m (ws .1 .1 .1 .1 .1 .1 .1 .0)) (ws .1 .1 .1 .1 .1 .1 .1 .1 .1 .1 .1 .0)) (toldFused r)) (λ f.
+        move ! (1 ∷ []) $ use1 W (some (λ (ws : Unit {0} × (List ℕ × (List ℕ × (List ℕ × (List ℕ × (List ℕ × (List ℕ × (List ℕ × (Unit {0} × (Unit {0} × (Unit {0} × (List ℕ × (Unit {0} × (Unit {0} × Unit {0})))))))))))))). ‵ (lasts fuse.ended (κ₁, (κ₂, (κ₃, (κ₄, (κ₅, (κ₆, (ν₃ ∷ [], (ν₄ ∷ [], (κ₈, tt))))))))) (x₁, (x₂, (x₃, (x₄, (x₅, (x₆, (record { ptr = (l₁₆, 0); name = δ₃; now = (zs .1 .1 .0) }, (record { ptr = (l₁₇, 0); name = δ₄; now = (zs .1 .1 .1 .0) }, (m, (n, (fault, (x₈, (z, (slots, tt)))))))))))))) ws) ⊛ raw (fact 𝓤 ((FusesFirst n fault slots z (lent (x₁ .now) (x₂ .now) (x₃ .now) (x₄ .now) (x₅ .now) (x₆ .now) (take m (zs .1 .1 .0)) (take m (zs .1 .1 .1 .0)) (x₈ .now)) (lent (x₁ .now) (ws .1 .0) (ws .1 .1 .0) (ws .1 .1 .1 .0) (ws .1 .1 .1 .1 .0) (ws .1 .1 .1 .1 .1 .0) (take m (ws .1 .1 .1 .1 .1 .1 .0)) (take m (ws .1 .1 .1 .1 .1 .1 .1 .0)) (ws .1 .1 .1 .1 .1 .1 .1 .1 .1 .1 .1 .0)) (toldFused r)) × (RestKept m (zs .1 .1 .0) (ws .1 .1 .1 .1 .1 .1 .0)) × (RestKept m (zs .1 .1 .1 .0) (ws .1 .1 .1 .1 .1 .1 .1 .0)))))) (id⊢ 𝓤 _) $ pick ! (λ ws. split ! $ move ! (1 ∷ []) $ heard ! ((FusesFirst n fault slots z (lent (x₁ .now) (x₂ .now) (x₃ .now) (x₄ .now) (x₅ .now) (x₆ .now) (take m (zs .1 .1 .0)) (take m (zs .1 .1 .1 .0)) (x₈ .now)) (lent (x₁ .now) (ws .1 .0) (ws .1 .1 .0) (ws .1 .1 .1 .0) (ws .1 .1 .1 .1 .0) (ws .1 .1 .1 .1 .1 .0) (take m (ws .1 .1 .1 .1 .1 .1 .0)) (take m (ws .1 .1 .1 .1 .1 .1 .1 .0)) (ws .1 .1 .1 .1 .1 .1 .1 .1 .1 .1 .1 .0)) (toldFused r)) × (RestKept m (zs .1 .1 .0) (ws .1 .1 .1 .1 .1 .1 .0)) × (RestKept m (zs .1 .1 .1 .0) (ws .1 .1 .1 .1 .1 .1 .1 .0))) (λ f.
         fsplit ! $ drop ! $ fsplit ! $ fsplit ! $ move ! (1 ∷ []) $ feqL ! (λ k₂. move ! (1 ∷ []) $ fsplit ! $ fsplit ! $ move ! (1 ∷ []) $ feqL ! (λ k₃. move ! (1 ∷ []) $ fsplit ! $ fsplit ! $ move ! (1 ∷ []) $ feqL ! (λ k₄. move ! (1 ∷ []) $ fsplit ! $ fsplit ! $ move ! (1 ∷ []) $ feqL ! (λ k₅. move ! (1 ∷ []) $ fsplit ! $ fsplit ! $ move ! (1 ∷ []) $ feqL ! (λ k₆. move ! (1 ∷ []) $ fsplit ! $ fsplit ! $ move ! (1 ∷ []) $ feqL ! (λ j₃. move ! (1 ∷ []) $ fsplit ! $ fsplit ! $ move ! (1 ∷ []) $ feqL ! (λ j₄. move ! (1 ∷ []) $ fsplit ! $ drop ! $ fsplit ! $ drop ! $ fsplit ! $ drop ! $ fsplit ! $ fsplit ! $ move ! (1 ∷ []) $ feqL ! (λ k₈. move ! (1 ∷ []) $ drop ! $
         move ! (8 ∷ []) $ split ! $ move ! (1 ∷ []) $ peeks ! F.the-row (Is F.the-row) (shows 𝓤 H A F.the-row) r (u ∷ []) (λ is₄. land ! (from ! (stop !)) (init ! 80 refl (EL.lawful F.the-type F′.the-laws 𝓤 H A W tt .typed r (u ∷ []) is₄ .0)) $ move ! (1 ∷ []) $ split ! $ move ! (1 ∷ []) $ split ! $ move ! (1 ∷ []) $ split ! $ move ! (1 ∷ []) $ split ! $ move ! (1 ∷ []) $ split ! $ move ! (1 ∷ []) $ split ! $ move ! (1 ∷ []) $ split ! $ move ! (1 ∷ []) $ split ! $ move ! (1 ∷ []) $ split ! $ move ! (1 ∷ []) $ drop ! $
         move ! (2 ∷ []) $ lft-end ! tt $ move ! (0 ∷ 19 ∷ 12 ∷ []) $ use3 W (later (‵ (InMemory u16 1024 l₁₆ (ws .1 .1 .1 .1 .1 .1 .0)))) (mut-back 𝓤 H A W u16 1024 l₁₆ erased (ν₃ ∷ []) δ₃ (ws .1 .1 .1 .1 .1 .1 .0)) $ await ! tt $
@@ -329,7 +329,7 @@ module _ {M : Type 1} (𝓤 : URA M) (H : Heap 𝓤) (A : Atoms 𝓤) (W : Given
         (ap (take m) (e .1) ∙ front-some xs₂ (rhssOf ys) m (in-numbers (λ (d : Definition). d .rhs) m (held-in len m em .0)) (in-array m (held-in len m em .1) xs₂ (is₂ .1 .0 .1)))
         slots (x₂ .now) (x₈ .now) (ws .1 .0) (ws .1 .1 .0) (ws .1 .1 .1 .0) (ws .1 .1 .1 .1 .0) (ws .1 .1 .1 .1 .1 .0) (take m (ws .1 .1 .1 .1 .1 .1 .0)) (take m (ws .1 .1 .1 .1 .1 .1 .1 .0)) (ws .1 .1 .1 .1 .1 .1 .1 .1 .1 .1 .1 .0) (ds .0) (toldFused r)
         (ap (λ (l : List Definition). dstsOf l) g ∙ reloaded-dsts ys (ws .1 .1 .1 .1 .1 .1 .0) (ws .1 .1 .1 .1 .1 .1 .1 .0) m (in-array m (held-in len m em .1) (ws .1 .1 .1 .1 .1 .1 .0) (j₃ ∙ j₁ ∙ is₁ .1 .0 .1)) (in-array m (held-in len m em .1) (ws .1 .1 .1 .1 .1 .1 .1 .0) (j₄ ∙ j₂ ∙ is₂ .1 .0 .1)))
-        (ap (λ (l : List Definition). rhssOf l) g ∙ reloaded-rhss ys (ws .1 .1 .1 .1 .1 .1 .0) (ws .1 .1 .1 .1 .1 .1 .1 .0) m (in-array m (held-in len m em .1) (ws .1 .1 .1 .1 .1 .1 .0) (j₃ ∙ j₁ ∙ is₁ .1 .0 .1)) (in-array m (held-in len m em .1) (ws .1 .1 .1 .1 .1 .1 .1 .0) (j₄ ∙ j₂ ∙ is₂ .1 .0 .1))) f))))))))))))))))))))))))))))))))))))))))))))))))))))))))))))))))))))))))))))))))))))))))))))))))))))))))))))))))))))))))))
+        (ap (λ (l : List Definition). rhssOf l) g ∙ reloaded-rhss ys (ws .1 .1 .1 .1 .1 .1 .0) (ws .1 .1 .1 .1 .1 .1 .1 .0) m (in-array m (held-in len m em .1) (ws .1 .1 .1 .1 .1 .1 .0) (j₃ ∙ j₁ ∙ is₁ .1 .0 .1)) (in-array m (held-in len m em .1) (ws .1 .1 .1 .1 .1 .1 .1 .0) (j₄ ∙ j₂ ∙ is₂ .1 .0 .1))) (f .0)))))))))))))))))))))))))))))))))))))))))))))))))))))))))))))))))))))))))))))))))))))))))))))))))))))))))))))))))))))))))))
 
 module _ {M : Type 1} (𝓤 : URA M) (H : Heap 𝓤) (A : Atoms 𝓤) (W : Given 𝓤 H A) (mem : Memory → SProp 𝓤) (run : Routine → Fun 𝓤) where
   entry-walks : (C : Calls 𝓤 H) (Λ : Loops 𝓤 H) → FmC 𝓤 H (W .laws) C → Triple 𝓤 (C #records·no-dsts) (NoDsts 𝓤 H A mem run) → Triple 𝓤 (C #records·no-rhss) (NoRhss 𝓤 H A mem run) → Triple 𝓤 (C #records·unload) (Unload 𝓤 H A mem run) → Triple 𝓤 (C #records·fuse-first) (Fuse 𝓤 H A mem run) → Triple 𝓤 (C #records·reload) (Reload 𝓤 H A mem run) → Triple 𝓤 (C #records·held) (Holds 𝓤 H A mem run) → Triple 𝓤 (C #records·looked) (Looks 𝓤 H A mem run) → Triple 𝓤 (C #records·no-terms) (NoTerms 𝓤 H A mem run) → Triple 𝓤 (C #records·records-fault) (Faults 𝓤 H A mem run)

@@ -1,5 +1,6 @@
--- Reading to the parts. Assumes nothing.
+-- Reading to the parts, which come back before the rest. Assumes nothing.
 use borrow.Author.Needs.{needs}
+use Rattle.records.proofs.Parts.{back-rest}
 use Rattle.records.proofs.Spans.{reads-part}
 use Rattle.records.proofs.files.read_numbers.Statement.{statement}
 use Rattle.records.proofs.files.read_numbers.Tie as tie
@@ -47,7 +48,7 @@ same-length-7 : tie.Need-same-length-7
 same-length-7 c = search needs
 
 returns : tie.Need-returns
-returns c = search reads-part
+returns c = (search reads-part, search back-rest, search back-rest)
 
 pub read-numbers-spec : {M : Type 1} → statement M
 read-numbers-spec =
