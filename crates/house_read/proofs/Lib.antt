@@ -12,3 +12,4 @@ pub mod Files
 pub mod Sorted
 pub mod Refusals
 pub mod Standings
+pub mod Short
