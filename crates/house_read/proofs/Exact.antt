@@ -64,7 +64,7 @@ module _ (s : List ℕ) where
       let b = no-cond (ltb end (operandNext s at)) 2 last (a .1) in
       (fault-terms w (termsAt s (u16At s at) (at + 2)) (b .1), ltb-false _ _ (b .0))
 
-  pub operands-fault : (w end k at : ℕ) → at ≤ end → operandsFault s w end k at ≡ 0
+  operands-fault : (w end k at : ℕ) → at ≤ end → operandsFault s w end k at ≡ 0
       → All (λ (o : Operand). All (TermOk w) o) (operandsAt s k at) × (operandsNext s k at ≤ end)
   unfolding operandsFault operandsAt operandsNext
   operands-fault w end zero at h e = (done, h)

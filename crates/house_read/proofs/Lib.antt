@@ -13,3 +13,4 @@ pub mod Sorted
 pub mod Refusals
 pub mod Standings
 pub mod Short
+pub mod Front
