@@ -56,7 +56,7 @@ no-cond true a b e = absurd (omega arith)
 no-cond false a b e = (refl, e)
 
 module _ (s : List ℕ) where
-  operand-fault : (w end at : ℕ) → operandFault s w end at ≡ 0 → All (TermOk w) (termsAt s (u16At s at) (at + 2)) × (operandNext s at ≤ end)
+  pub operand-fault : (w end at : ℕ) → operandFault s w end at ≡ 0 → All (TermOk w) (termsAt s (u16At s at) (at + 2)) × (operandNext s at ≤ end)
   unfolding operandFault
   operand-fault w end at e =
       let last : ℕ = firstFault (termFault w) (termsAt s (u16At s at) (at + 2)) in
@@ -83,11 +83,11 @@ module _ (s : List ℕ) where
   next-grows zero at = omega arith
   next-grows (suc k) at = omega (arith, next-grows k (operandNext s at))
 
-  record PayloadIs (w tag end at : ℕ) : Type 0 where
-    dst-ok : cond (eqb tag LINEAR) (u16At s at) 0 < w
-    starts : operandsStart tag at ≤ end
-    operands-ok : All (λ (o : Operand). All (TermOk w) o) (operandsAt s (arity tag) (operandsStart tag at))
-    ends : operandsNext s (arity tag) (operandsStart tag at) ≡ end
+  pub record PayloadIs (w tag end at : ℕ) : Type 0 where
+    pub dst-ok : cond (eqb tag LINEAR) (u16At s at) 0 < w
+    pub starts : operandsStart tag at ≤ end
+    pub operands-ok : All (λ (o : Operand). All (TermOk w) o) (operandsAt s (arity tag) (operandsStart tag at))
+    pub ends : operandsNext s (arity tag) (operandsStart tag at) ≡ end
 
   dest-by : (b : Bool) (w end at : ℕ) → 0 < w → at ≤ end → cond b (cond (ltb end (at + 2)) SHAPE (cond (ltb (u16At s at) w) 0 WIRE)) 0 ≡ 0
       → (cond b (u16At s at) 0 < w) × (cond b (at + 2) at ≤ end)
@@ -100,7 +100,7 @@ module _ (s : List ℕ) where
       go true e = refl
       go false e = absurd (omega arith)
 
-  payload-fault : (w tag end at : ℕ) → 0 < w → at ≤ end → payloadFault s w tag end at ≡ 0 → PayloadIs w tag end at
+  pub payload-fault : (w tag end at : ℕ) → 0 < w → at ≤ end → payloadFault s w tag end at ≡ 0 → PayloadIs w tag end at
   unfolding payloadFault destinationFault operandsStart
   payload-fault w tag end at z h e =
       let q = operandsStart tag at in
@@ -319,7 +319,7 @@ file-bytes s bytes es t n h l =
     let h₂ : Has s 1 (le16 2 ++ (le16 w ++ restBytes es)) = subst (λ (k : ℕ). Has s 1 (le16 k ++ (le16 w ++ restBytes es))) n h₁ in
     sym (has-all s (fileBytes w es) (t, h₂) (omega (arith, l)))
 
-byte-at : (s : List ℕ) → All (λ (b : ℕ). b < 256) s → (i : ℕ) → getD s i 0 < 256
+pub byte-at : (s : List ℕ) → All (λ (b : ℕ). b < 256) s → (i : ℕ) → getD s i 0 < 256
 byte-at [] done i = omega arith
 byte-at (b ∷ s) (more h k) zero = h
 byte-at (b ∷ s) (more h k) (suc i) = byte-at s k i

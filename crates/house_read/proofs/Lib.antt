@@ -12,3 +12,5 @@ pub mod Files
 pub mod Sorted
 pub mod Refusals
 pub mod Standings
+pub mod Short
+pub mod Front
