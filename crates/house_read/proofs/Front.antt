@@ -3,7 +3,7 @@
 use mathlib.Core.Path.{_≡_, refl, sym, ap, _∙_, subst}
 use mathlib.Core.Bool.{Bool, true, false, cond}
 use mathlib.Core.Logic.{_↔_}
-use mathlib.Core.List.{List}
+use mathlib.Core.List.{List, [], _∷_}
 use Prim.Native.Nat.{ℕ, zero, suc, _+_, _*_, _≤_, _<_}
 use native.Mathlib.Omega.{arith}
 use lib.ListN.{length, getD, take}
@@ -123,11 +123,11 @@ module _ (s t : List ℕ) (limit : ℕ) (same : (i : ℕ) → i < limit → getD
 
 -- ---- and both of them more bytes than a field can end at
 
-module _ (s t : List ℕ) (limit : ℕ) (same : (i : ℕ) → i < limit → getD t i 0 ≡ getD s i 0) (bytes : (i : ℕ) → getD s i 0 < 256)
+module _ (s t : List ℕ) (limit : ℕ) (same : (i : ℕ) → i < limit → getD t i 0 ≡ getD s i 0) (bytes : (i : ℕ) → i < limit → getD s i 0 < 256)
     (long : limit ≤ length s) (long′ : limit ≤ length t) where
-  end-few : (at : ℕ) → fieldEnd s at ≤ at + 65538
+  end-few : (at : ℕ) → at + 65538 ≤ limit → fieldEnd s at ≤ at + 65538
   unfolding u16At
-  end-few at = omega (arith, bytes (at + 1), bytes (at + 1 + 1))
+  end-few at h = omega (arith, bytes (at + 1) (omega arith), bytes (at + 1 + 1) (omega arith))
 
   end-same : (at : ℕ) → at + 65538 ≤ limit → fieldEnd t at ≡ fieldEnd s at
   end-same at h = ap (λ (n : ℕ). at + 3 + n) (u16-same s t limit same (at + 1) (omega arith))
@@ -135,7 +135,7 @@ module _ (s t : List ℕ) (limit : ℕ) (same : (i : ℕ) → i < limit → getD
   head-same : (low high at : ℕ) → at + 65538 ≤ limit → headFault t low high at ≡ headFault s low high at
   unfolding headFault
   head-same low high at h =
-      let e = end-few at in
+      let e = end-few at h in
       rw (
         same at (omega arith),
         end-same at h,
@@ -150,7 +150,7 @@ module _ (s t : List ℕ) (limit : ℕ) (same : (i : ℕ) → i < limit → getD
   field-same w c at h =
       let tag = getD s at 0 in
       let end = fieldEnd s at in
-      let l = end-few at in
+      let l = end-few at h in
       let shut : ℕ = cond (eqb (u16At s (at + 1)) 0) 0 SHAPE in
       let rest : List ℕ → ℕ = λ x. orElse (payloadFault x w tag end (at + 3)) (fullFault (countsAfter x c at)) in
       rw (head-same 2 END at h, same at (omega arith), u16-same s t limit same (at + 1) (omega arith))
@@ -167,7 +167,7 @@ module _ (s t : List ℕ) (limit : ℕ) (same : (i : ℕ) → i < limit → getD
       after (field-same w c at (omega arith) ∙ f) (ap (λ (x : ℕ). eqb x END) (same at (omega arith)) ∙ g) (omega arith) a b
   fault-front {w} {c = c} {at = at} m z k (later f g q) =
       let h = near-short k in
-      let l = end-few at in
+      let l = end-few at (omega arith) in
       let r = fault-front m z (near-next s w c at z f g k) q in
       later (field-same w c at (omega arith) ∙ f) (ap (λ (x : ℕ). eqb x END) (same at (omega arith)) ∙ g)
       (rw (end-same at (omega arith), counts-same s t limit same w c at (omega arith) (omega arith) (entry-field s w c at f g .payload)) r)
@@ -205,7 +205,15 @@ module _ (s u terms ands imuls bmuls zeros dsts rhss : List ℕ) (r : Read) (ter
 
 -- ---- the front of a file
 
-module _ (limit : ℕ) (s : List ℕ) (most : 149511 ≤ limit) (bytes : (i : ℕ) → getD s i 0 < 256) where
+-- bytes have a front of bytes
+pub front-bytes : (n : ℕ) (s : List ℕ) → ((i : ℕ) → getD s i 0 < 256) → (i : ℕ) → getD (take n s) i 0 < 256
+front-bytes zero s b i = omega arith
+front-bytes (suc n) [] b i = omega arith
+front-bytes (suc n) (x ∷ s) b zero = b 0
+front-bytes (suc n) (x ∷ s) b (suc i) = front-bytes n s (λ j. b (suc j)) i
+
+-- only the front need be bytes, which is all that a reader of it knows
+module _ (limit : ℕ) (s : List ℕ) (most : 149511 ≤ limit) (bytes : (i : ℕ) → getD (take limit s) i 0 < 256) where
   front-done : (z : Sizes) (n : ℕ) → readOf s ≡ Done z n → take limit s ≡ s
   front-done z n e = take-all limit s (omega (arith, accepted-short s z n e))
 
@@ -215,7 +223,7 @@ module _ (limit : ℕ) (s : List ℕ) (most : 149511 ≤ limit) (bytes : (i : �
       let l : limit < length s = ltb-true _ _ h in
       let same : (i : ℕ) → i < limit → getD (take limit s) i 0 ≡ getD s i 0 = λ i k. getD-take limit s i 0 k in
       let long : limit ≤ length (take limit s) = omega (arith, length-take-le limit s (omega arith)) in
-      refusal-right (take limit s) n j .1 (first-front s (take limit s) limit same bytes (omega arith) long most (refusal-right s n j .0 e))
+      refusal-right (take limit s) n j .1 (first-front s (take limit s) limit same (λ i k. rw (same i k) at (bytes i)) (omega arith) long most (refusal-right s n j .0 e))
 
   front-of : (x : Read) → readOf s ≡ x → readOf (take limit s) ≡ x
   front-of (Refused n j) e = front-by n j (ltb limit (length s)) refl e
