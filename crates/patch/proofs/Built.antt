@@ -136,9 +136,9 @@ module _ (go : Term → Written → Written) (ex : Term → List Term) where
       )
 
   -- it has them all
-  ends-later : (o : Operand) → All Writes o → (os : List Operand) (b x : Built) → b .wrote .count + length (gather ex o) ≤ length (b .wrote .new) → Ends os (next o b) x → Ends (o ∷ os) b x
+  ends-later : (o : Operand) (os : List Operand) (b x : Built) → b .wrote .count + length (gather ex o) ≤ length (b .wrote .new) → Ends os (next o b) x → Ends (o ∷ os) b x
   unfolding handlesFrom cutAt
-  ends-later o h os b x r q =
+  ends-later o os b x r q =
       let A = gather ex o in
       let n = b .wrote .count in
       let room : ℕ = length (b .wrote .new) - n in
@@ -170,7 +170,7 @@ module _ (go : Term → Written → Written) (ex : Term → List Term) where
       step onward (yes q) = ends-here o h k b e l c q
       step onward (no q) =
           subst (λ (x : Built). Ends (o ∷ os) b (buildAll go os x)) (sym (one-fits o h b e m (omega (arith, l)) (omega (arith, q))))
-          (ends-later o h os b (buildAll go os (next o b)) (omega (arith, q)) (onward q))
+          (ends-later o os b (buildAll go os (next o b)) (omega (arith, q)) (onward q))
 
 -- operands that all fit are not cut
 pub cut-none : (f : Operand → Operand) (os : List Operand) (n : ℕ) → length (gather f os) ≤ n → cutAt n (map f os) ≡ map f os
@@ -179,8 +179,3 @@ cut-none f [] n h = refl
 cut-none f (o ∷ os) n h =
     let long = length-append (f o) (gather f os) in
     ap₂ (λ (x : Operand) (r : List Operand). x ∷ r) (take-all n (f o) (omega (arith, h, long))) (cut-none f os (n - length (f o)) (omega (arith, h, long)))
-
-pub cut-length : (n : ℕ) (os : List Operand) → length (cutAt n os) ≡ length os
-unfolding cutAt
-cut-length n [] = refl
-cut-length n (o ∷ os) = ap suc (cut-length (n - length o) os)
