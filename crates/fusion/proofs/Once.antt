@@ -1,23 +1,43 @@
--- Fusing has one answer, and its counts add up. Assumes nothing.
+-- Fusing has one answer, and its counts add up; so has rebuilding. Assumes nothing.
 use mathlib.Core.Path.{_≡_, refl, sym, ap, _∙_}
 use Prim.Native.Nat.{ℕ, _+_}
 use mathlib.Core.Bool.{Bool}
-use lib.ListN.{length}
+use mathlib.Core.List.{List}
+use lib.ListN.{length, drop}
 use Rattle.word.specs.Answers as T
 use Rattle.word.specs.Answers.{Told}
 use Rattle.lower.specs.declared.Sizes.{Sizes}
+use Rattle.lower.specs.Model.{System}
 use Rattle.lower.specs.Accepted.{NoCircle, Accepted}
+use Rattle.lower.specs.Stores.{Stores, systemOf}
 use Rattle.commit_set.specs.declared.Decision.{Decision}
 use Rattle.commit_set.specs.Decision.{Solves}
 use Rattle.commit_set.specs.Answer.{decisionFault}
 use Rattle.commit_set.proofs.Theorem.{decided-accepted}
+use Rattle.patch.specs.declared.Cursor.{Cursor}
 use Rattle.patch.specs.Patch.{commitSet}
 use Rattle.patch.proofs.Parts.{clash}
 use Rattle.patch.proofs.Unique.{set-only}
 use Rattle.patch.proofs.Counting.{counted}
+use Rattle.reach.specs.Reach.{ReachIn}
+use Rattle.reach.specs.Steps.{Filled}
+use Rattle.reach.proofs.Once.{reach-once}
 use Rattle.fusion.specs.declared.Fused.the-variants.{Done}
 use Rattle.fusion.specs.Left.{Lent, input, fused, hasRoom, countsOf, leaves}
 use Rattle.fusion.specs.Answer.{toldFused, Fuses, refused, circular, short, patches}
+use Rattle.fusion.specs.Steps.{Ready, Ordered, chosen, Rebuilt}
+use Rattle.fusion.proofs.Making.{memory, accepted}
+
+-- the new terms and the numbers of their operands, whether all fits or not
+pub rebuilt-once : (p : System) (c : ℕ → Bool) (out list o₁ o₂ l₁ l₂ : List ℕ) (b₁ b₂ : Cursor) → Rebuilt p c out list o₁ l₁ b₁ → Rebuilt p c out list o₂ l₂ b₂ → (b₁ ≡ b₂) × (o₁ ≡ o₂) × (l₁ ≡ l₂)
+rebuilt-once p c out list o₁ o₂ l₁ l₂ b₁ b₂ x y = (x .cursor ∙ sym (y .cursor), x .terms ∙ sym (y .terms), x .listed ∙ sym (y .listed))
+
+-- the masks of the definitions that are met
+pub rebuilt-reach-once : (z : Sizes) (s : Stores) (decisions table order : List ℕ) (left : ℕ) → Ready z s decisions → Ordered z s table order left → (before a b : List ℕ)
+    → ReachIn (systemOf z s) (chosen z s decisions) (z .linears) (s .dsts) a → Filled (z .linears) before a
+    → ReachIn (systemOf z s) (chosen z s decisions) (z .linears) (s .dsts) b → Filled (z .linears) before b → a ≡ b
+rebuilt-reach-once z s decisions table order left r o before a b =
+    reach-once z s (memory z s decisions r) (accepted z s decisions r .once) (chosen z s decisions) (drop left order) (o .named) before a b
 
 -- "Definitions before = gone + stranded + committed"
 pub fused-counts : (z : Sizes) (l : Lent) (c : ℕ → Bool) → Accepted (fused z l)

@@ -1,7 +1,7 @@
 -- For an accepted system in stores and its decisions: what rebuilding needs is there, and what it writes is what is left in the stores.
 -- Assumes nothing.
 use mathlib.Core.Path.{_≡_, refl, sym, ap, _∙_, subst, fun-ext}
-use Prim.Native.Nat.{ℕ, _+_, _*_, _≤_, _<_}
+use Prim.Native.Nat.{ℕ, _+_, _*_, _-_, _≤_, _<_}
 use native.Mathlib.Omega.{arith}
 use mathlib.Core.Bool.{Bool, true, false}
 use mathlib.Core.List.{List, [], _++_, map}
@@ -26,7 +26,8 @@ use Rattle.commit_set.specs.Decision.{Solves}
 use Rattle.commit_set.proofs.Members.{all-terms, all-rhs}
 use Rattle.patch.specs.Expansion.{expand, Fits, Within}
 use Rattle.patch.specs.Patch.{commitSet, inlined, depth, expandTerm, expandOperand, rebuilt, rowRebuilds, rhssOf, rebuilds, written, termsWritten, commits, NeverOver}
-use Rattle.patch.specs.Steps.{wrote, Does}
+use Rattle.patch.specs.Handles.{handlesFrom, cutAt}
+use Rattle.patch.specs.Steps.{wrote, Spilt, Does}
 use Rattle.patch.specs.Spelling.{Source, source, inPlace, spell, Looks, Readable}
 use Rattle.patch.specs.Building.{built, buildAll, Rooted, operandsIn}
 use Rattle.patch.proofs.Parts.{all-each, all-two}
@@ -37,6 +38,7 @@ use Rattle.patch.proofs.Built.{Writes, built-fits, built-over}
 use Rattle.reach.specs.Alive.{AliveIn}
 use Rattle.reach.proofs.Sources.{place-is, source-spells}
 use Rattle.fusion.specs.Left.{numbers}
+use Rattle.fusion.specs.Steps.{numbersIn}
 use Rattle.fusion.proofs.Models.{operands-are}
 use Rattle.fusion.proofs.System.{parted-length}
 
@@ -151,10 +153,16 @@ module _ (slots : ℕ) (z : Sizes) (s : Stores) (e : memoryFault 8192 z s ≡ 0)
         ∙ ap (λ (n : ℕ). built (wrote (sets out 0 (map termNumber (written p c))) n [] false) (sets list 0 (numbers p c)) (0 + length (rebuilds p c))) i
         ∙ ap (λ (n : ℕ). built (wrote (sets out 0 (map termNumber (written p c))) (termsWritten p c) [] false) (sets list 0 (numbers p c)) n) j
 
-    -- and else a term found no room
-    pub rebuilding-over : length out < termsWritten p c
-        → buildAll (spell src (z .linears)) (operandsIn src z (s .ands) (s .imuls) (s .bmuls) (s .zeros)) (built (wrote out 0 [] false) list 0) .wrote .full ≡ true
-    unfolding termsWritten written expandOperand
+    -- and else as many as there is room for
+    abbrev Ends : List Operand → Type 0
+    Ends os =
+        Spilt out 0 (written p c) (buildAll (spell src (z .linears)) os (built (wrote out 0 [] false) list 0) .wrote)
+        × (buildAll (spell src (z .linears)) os (built (wrote out 0 [] false) list 0) .list ≡ sets list 0 (numbersIn p c (length out)))
+
+    pub rebuilding-over : length out < termsWritten p c → Ends (operandsIn src z (s .ands) (s .imuls) (s .bmuls) (s .zeros))
+    unfolding termsWritten written numbersIn expandOperand
     rebuilding-over h =
-        ap (λ (os : List Operand). buildAll (spell src (z .linears)) os (built (wrote out 0 [] false) list 0) .wrote .full) (operands-are z s e (acc .once) decisions alive)
-        ∙ built-over (spell src (z .linears)) (expandTerm p c) all-write (built (wrote out 0 [] false) list 0) refl refl (omega (arith, long)) (omega arith) (omega (arith, h))
+        let i : length out - 0 ≡ length out = omega arith in
+        let q = built-over (spell src (z .linears)) (expandTerm p c) all-write (built (wrote out 0 [] false) list 0) refl refl (omega (arith, long)) (omega arith) (omega (arith, h)) in
+        subst Ends (sym (operands-are z s e (acc .once) decisions alive))
+        (q .0, q .1 ∙ ap (λ (n : ℕ). sets list 0 (handlesFrom 0 (cutAt n (map (expandOperand p c) (rebuilds p c))))) i)

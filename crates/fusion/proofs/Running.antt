@@ -26,12 +26,13 @@ use Rattle.commit_set.proofs.Answers.{memory-none, once, slots-few}
 use Rattle.commit_set.proofs.Theorem.{decided-accepted}
 use Rattle.reach.proofs.Ordered.{straight-by, walk-orders}
 use Rattle.patch.specs.declared.Cursor.{Cursor}
-use Rattle.patch.specs.Patch.{termsWritten}
+use Rattle.patch.specs.Patch.{termsWritten, rebuilds}
 use Rattle.fusion.specs.declared.Counts.{Counts}
 use Rattle.fusion.specs.declared.Fused.the-variants.{Done}
 use Rattle.fusion.specs.Left.{Lent, input, output, fused, hasRoom, countsOf, sizesAfter, leaves}
 use Rattle.fusion.specs.Answer.{toldFused, Fuses, short, patches}
 use Rattle.fusion.proofs.System.{system-left}
+use Rattle.fusion.proofs.Making.{cursor-over, rebuilt-fits, rebuilt-holds}
 use Rattle.fusion.specs.Steps.{Ready, Ordered, chosen, Holds, Rebuilt, lacksRoom, Patched, short as is-short, patches as is-patched}
 
 -- ---- the walk
@@ -116,10 +117,10 @@ module _ (z : Sizes) (l : Lent) (c : ℕ → Bool) (out list out′ list′ : Li
   unfolding lacksRoom
   room true q =
       let k : termsWritten (fused z l) c ≤ length out = omega (arith, leb-true (termsWritten (fused z l) c) 16384 q, e) in
-      rw (m .fits k, m .holds k .count, tested (termsWritten (fused z l) c) (length (l .new)) _ refl, tested (z .wires) (length (l .flags)) _ refl)
+      rw (rebuilt-fits (fused z l) c out list out′ list′ b m k, tested (termsWritten (fused z l) c) (length (l .new)) _ refl, tested (z .wires) (length (l .flags)) _ refl)
       (neither (leb (termsWritten (fused z l) c) (length (l .new))) (leb (z .wires) (length (l .flags)))
       ∙ ap (λ (w : ℕ). not (leb (termsWritten (fused z l) c) (length (l .new)) && leb w (length (l .flags)))) (sym (wires-are z l)))
-  room false q = rw (m .over (omega (arith, leb-false (termsWritten (fused z l) c) 16384 q, e)))
+  room false q = rw (m .cursor ∙ cursor-over (length out) (termsWritten (fused z l) c) (omega (arith, leb-false (termsWritten (fused z l) c) 16384 q, e)))
 
   room-is : lacksRoom b (length (l .new)) (length (l .flags)) (z .wires) ≡ not (hasRoom (fused z l) c l)
   unfolding hasRoom
@@ -135,9 +136,10 @@ module _ (z : Sizes) (l : Lent) (c : ℕ → Bool) (out list out′ list′ : Li
   first true y q = refl
   first false y q = q
 
-  pub room-holds : hasRoom (fused z l) c l ≡ true → Holds (fused z l) c out′ list′ (b .count)
+  pub room-holds : length list ≡ 7168 → length (rebuilds (fused z l) c) ≤ 7168 → hasRoom (fused z l) c l ≡ true → Holds (fused z l) c out′ list′ (b .count)
   unfolding hasRoom
-  room-holds q = m .holds (omega (arith, leb-true (termsWritten (fused z l) c) 16384 (first (leb (termsWritten (fused z l) c) 16384) _ q), e))
+  room-holds n k q =
+      rebuilt-holds (fused z l) c out list out′ list′ b m (omega (arith, leb-true (termsWritten (fused z l) c) 16384 (first (leb (termsWritten (fused z l) c) 16384) _ q), e)) (omega (arith, n, k))
 
 pub patched-answer : (z : Sizes) (ds : List ℕ) (l l′ : Lent) (r : Counts) → hasRoom (fused z l) (chosen z (input l) ds) l ≡ true → l′ ≡ leaves z l (chosen z (input l) ds)
     → r ≡ countsOf (fused z l) (chosen z (input l) ds) → Patched z ds l l′ (toldFused (Done r))

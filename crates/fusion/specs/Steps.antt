@@ -3,7 +3,9 @@
 --   Ready          a system that nothing is refused in, and its decisions
 --   Ordered        the definition of each wire, and an order of all definitions, each before those that it names
 --   chosen         the wires that they commit
---   Rebuilt        what rebuilding has come to: the new terms and the numbers of their operands, or a store that is too short
+--   numbersIn n    the numbers of the operands that are rebuilt, where the store of new terms has n places
+--   Rebuilt        what rebuilding leaves, whether all fits or not: as many new terms as there is room for, the numbers of their operands, and
+--                  how far the store is filled
 --   Holds          the new terms and the numbers of their operands, from the front of their stores on
 --   lacksRoom      12, once rebuilding is done
 --   Closable       what closing up the definitions asks
@@ -17,6 +19,7 @@ use mathlib.Core.Bool.{Bool, true, false, _||_}
 use mathlib.Core.List.{List, map}
 use lib.Dec.{ltb}
 use lib.ListN.{length, take, drop, replicate}
+use lib.Seq.{sets}
 use Rattle.word.specs.Answers.{Told, refused}
 use Rattle.operand.specs.Numbers.{termNumber}
 use Rattle.lower.specs.declared.Sizes.{Sizes}
@@ -29,7 +32,9 @@ use Rattle.commit_set.specs.Decision.{Solves}
 use Rattle.commit_set.specs.Numbers.{stateAt}
 use Rattle.commit_set.specs.Answer.{ROOM, decisionFault}
 use Rattle.patch.specs.declared.Cursor.{Cursor}
-use Rattle.patch.specs.Patch.{commitSet, written, termsWritten, rebuilds}
+use Rattle.patch.specs.Patch.{commitSet, expandOperand, written, termsWritten, rebuilds}
+use Rattle.patch.specs.Handles.{handlesFrom, cutAt}
+use Rattle.patch.specs.Spelling.{cursorAt}
 use Rattle.reach.specs.Steps.{Order}
 use Rattle.apply.specs.Applied.{isStranded, keepFrom, committedWires}
 use Rattle.fusion.specs.declared.Counts.{Counts}
@@ -61,11 +66,15 @@ pub record Holds (p : System) (c : ℕ → Bool) (out list : List ℕ) (n : ℕ)
   pub terms-there : termsWritten p c ≤ length out
   pub there : length (rebuilds p c) ≤ length list
 
+-- an operand that is cut off, or comes after it, has the terms that stand in the store; `numbers`, where all fit
+unfoldable pub numbersIn : System → (ℕ → Bool) → ℕ → List ℕ
+numbersIn p c n = handlesFrom 0 (cutAt n (map (expandOperand p c) (rebuilds p c)))
+
 -- out and list are the stores of new terms and of operand numbers before, out′ and list′ after
 pub record Rebuilt (p : System) (c : ℕ → Bool) (out list out′ list′ : List ℕ) (b : Cursor) : Type 0 where
-  pub over : length out < termsWritten p c → b .full ≡ true
-  pub fits : termsWritten p c ≤ length out → b .full ≡ false
-  pub holds : termsWritten p c ≤ length out → Holds p c out′ list′ (b .count)
+  pub cursor : b ≡ cursorAt (length out) (termsWritten p c)
+  pub terms : out′ ≡ sets out 0 (map termNumber (take (length out) (written p c)))
+  pub listed : list′ ≡ sets list 0 (numbersIn p c (length out))
 
 -- new and flags are the lengths of what is lent
 unfoldable pub lacksRoom : Cursor → ℕ → ℕ → ℕ → Bool

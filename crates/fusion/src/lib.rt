@@ -9,6 +9,7 @@ ghost use Rattle.lower.specs.Stores.{stores, systemOf};
 ghost use Rattle.legraph.specs.Tables.{numbered};
 ghost use Rattle.commit_set.specs.Answer.{decisionFault};
 ghost use Rattle.reach.specs.Reach.{ReachIn};
+ghost use Rattle.reach.specs.Steps.{Filled};
 ghost use Rattle.apply.specs.Applied.{isStranded, keepFrom, committedWires};
 ghost use Rattle.fusion.specs.Left.{lent, hasRoom, countsOf, leaves};
 ghost use Rattle.fusion.specs.Answer.{toldFused, Fuses};
@@ -192,6 +193,7 @@ fn rebuild(
     requires { ⌜ Ordered z (stores (now old) [] (now ands) (now imuls) (now bmuls) (now zeros) (now dsts) (now rhss)) (now table) (now order) left ⌝ }
     requires { ⌜ (length (now reach) ≡ 1024) × (length (now out) ≡ 16384) × (length (now list) ≡ 7168) ⌝ }
     ensures { λ r. ⌜ ReachIn (systemOf z (stores (now (old .entry)) [] (now (ands .entry)) (now (imuls .entry)) (now (bmuls .entry)) (now (zeros .entry)) (now (dsts .entry)) (now (rhss .entry)))) (chosen z (stores (now (old .entry)) [] (now (ands .entry)) (now (imuls .entry)) (now (bmuls .entry)) (now (zeros .entry)) (now (dsts .entry)) (now (rhss .entry))) (now (decisions .entry))) (z .linears) (now (dsts .entry)) (now (reach .exit)) ⌝ }
+    ensures { λ r. ⌜ Filled (z .linears) (now (reach .entry)) (now (reach .exit)) ⌝ }
     ensures { λ r. ⌜ Rebuilt (systemOf z (stores (now (old .entry)) [] (now (ands .entry)) (now (imuls .entry)) (now (bmuls .entry)) (now (zeros .entry)) (now (dsts .entry)) (now (rhss .entry)))) (chosen z (stores (now (old .entry)) [] (now (ands .entry)) (now (imuls .entry)) (now (bmuls .entry)) (now (zeros .entry)) (now (dsts .entry)) (now (rhss .entry))) (now (decisions .entry))) (now (out .entry)) (now (list .entry)) (now (out .exit)) (now (list .exit)) r ⌝ }
 {
     let n = z.linears;

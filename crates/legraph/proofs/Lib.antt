@@ -7,3 +7,4 @@ pub mod Listing
 pub mod Circles
 pub mod Theorem
 pub mod Samples
+pub mod Once

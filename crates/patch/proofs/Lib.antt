@@ -17,4 +17,5 @@ pub mod Results
 pub mod Handles
 pub mod Spelled
 pub mod Built
+pub mod Once
 pub mod Builds

@@ -1,20 +1,17 @@
 -- What the program writes is the expansion, where what it passes over expands to nothing.
 -- Assumes nothing.
 use mathlib.Core.Path.{_≡_, refl, sym, ap, _∙_, subst}
-use Prim.Native.Nat.{ℕ, zero, suc, _+_, _≤_, _<_}
+use Prim.Native.Nat.{ℕ, zero, suc}
 use mathlib.Core.Bool.{Bool, true, false, cond}
-use mathlib.Core.List.{List, [], _∷_, _++_}
+use mathlib.Core.List.{List, [], _∷_}
 use mathlib.Core.Option.{Option, none, some}
-use lib.ListN.{length}
 use Rattle.shift.specs.Shifts.{shiftAt}
 use Rattle.operand.specs.declared.PushInner.{PushInner}
 use Rattle.operand.specs.declared.PushInner.the-variants.{Seq, Zero, OverBudget}
-use Rattle.operand.specs.Push.{pushValid}
 use Rattle.operand.specs.Numbers.{Term, Operand}
 use Rattle.lower.specs.Lists.{All, done, more}
-use Rattle.patch.specs.Lists.{gather}
 use Rattle.patch.specs.Expansion.{folded, descend, DescendFits, below, BelowFits, expandBy, FitsBy, expand, Fits, Within}
-use Rattle.patch.specs.Steps.{Written, put, writeDown, Does}
+use Rattle.patch.specs.Steps.{Written, put, writeDown, Spilt, Does}
 use Rattle.patch.specs.Spelling.{Source, inPlace, dead, spellUnder, spellBy, spell}
 use Rattle.patch.proofs.Writing.{does-nothing, does-put, does-both}
 
@@ -23,7 +20,7 @@ does-as f g ts ws e h =
     record {
       stays = λ m x. e m ∙ h .stays m x;
       fits = λ m x y. e m ∙ h .fits m x y;
-      over = λ m x y z. ap (λ (q : Written). q .full) (e m) ∙ h .over m x y z;
+      over = λ m x y z. subst (Spilt (m .new) (m .count) ts) (sym (e m)) (h .over m x y z);
     }
 
 -- nothing is done once a term found no room

@@ -1,13 +1,13 @@
 -- What a program writes and marks, step by step, is the expansion and what it meets. Assumes nothing.
-use mathlib.Core.Path.{_≡_, refl, ap, ap₂, _∙_}
-use Prim.Native.Nat.{ℕ, zero, suc, _+_, _≤_, _<_}
+use mathlib.Core.Path.{_≡_, refl, sym, ap, ap₂, _∙_, subst}
+use Prim.Native.Nat.{ℕ, zero, suc, _+_, _-_, _≤_, _<_}
 use native.Mathlib.Omega.{arith}
 use native.Mathlib.Decide.{decLt}
-use mathlib.Core.Bool.{Bool, true, false}
+use mathlib.Core.Bool.{Bool, false}
 use mathlib.Core.List.{List, [], _∷_, _++_, map, map-append}
 use mathlib.Core.Option.{Option, none, some}
-use lib.ListN.{length, set, length-append, length-set}
-use lib.Seq.{sets}
+use lib.ListN.{length, take, set, length-append, length-set}
+use lib.Seq.{sets, take-append-le, take-append-add}
 use borrow.Author.Tests.{lt-ltb, le-ltb}
 use Rattle.operand.specs.declared.PushInner.{PushInner}
 use Rattle.operand.specs.declared.PushInner.the-variants.{Seq, Zero, OverBudget}
@@ -17,7 +17,7 @@ use Rattle.lower.specs.Tables.{marks}
 use Rattle.patch.specs.Lists.{gather}
 use Rattle.patch.specs.Expansion.{folded, descend, below, expandBy, expand, metBy, met}
 use Rattle.patch.specs.Patch.{inlined, depth, expandTerm, metTerm, expandOperand, metOperand, rebuilds, written, allMet}
-use Rattle.patch.specs.Steps.{Written, wrote, put, meet, writeDown, writeBelow, writeBy, write, writeTerms, writeOperands, writeTerm, writeOperand, writeAll, after, Does}
+use Rattle.patch.specs.Steps.{Written, wrote, put, meet, writeDown, writeBelow, writeBy, write, writeTerms, writeOperands, writeTerm, writeOperand, writeAll, after, filled, Spilt, Does}
 
 -- ---- stores
 
@@ -37,6 +37,37 @@ numbers-length : (ts : List Term) → length (map termNumber ts) ≡ length ts
 numbers-length [] = refl
 numbers-length (t ∷ ts) = ap suc (numbers-length ts)
 
+-- ---- a store that is full
+
+module _ (new : List ℕ) (n : ℕ) (a b : List Term) (m : Written) where
+  -- what comes after the term that found no room changes nothing
+  pub spilt-before : length new ≤ n + length a → Spilt new n a m → Spilt new n (a ++ b) m
+  spilt-before h q =
+      record {
+        front = q .front ∙ ap (λ (ts : List Term). sets new n (map termNumber ts)) (sym (take-append-le (length new - n) a b (omega (arith, h))));
+        at-end = q .at-end;
+        no-room = q .no-room;
+      }
+
+  -- what comes before it stands in the store
+  pub spilt-behind : n + length a ≤ length new → Spilt (sets new n (map termNumber a)) (n + length a) b m → Spilt new n (a ++ b) m
+  spilt-behind h q =
+      let long = sets-length new n (map termNumber a) in
+      let i : n + length a ≡ n + length (map termNumber a) = omega (arith, numbers-length a) in
+      let k : length (sets new n (map termNumber a)) - (n + length a) ≡ length new - n - length a = omega (arith, long) in
+      let j : length a + (length new - n - length a) ≡ length new - n = omega (arith, h) in
+      let rest : List Term = take (length new - n - length a) b in
+      record {
+        front =
+            q .front
+            ∙ ap₂ (λ (x y : ℕ). sets (sets new n (map termNumber a)) x (map termNumber (take y b))) i k
+            ∙ sets-both new n (map termNumber a) (map termNumber rest)
+            ∙ ap (sets new n) (sym (map-append termNumber a rest))
+            ∙ ap (λ (ts : List Term). sets new n (map termNumber ts)) (sym (take-append-add a b (length new - n - length a)) ∙ ap (λ (x : ℕ). take x (a ++ b)) j);
+        at-end = q .at-end ∙ long;
+        no-room = q .no-room;
+      }
+
 -- ---- steps
 
 pub does-nothing : Does (λ m. m) [] []
@@ -47,12 +78,23 @@ does-nothing = record { stays = λ m e. refl; fits = λ m e h. same m e; over = 
 
 pub does-put : (t : Term) → Does (put t) (t ∷ []) []
 unfolding put
-does-put t = record { stays = λ m e. rw e; fits = fits; over = λ m e l h. rw (e, le-ltb (m .count) (length (m .new)) (omega (arith, h))) }
+does-put t = record { stays = λ m e. rw e; fits = fits; over = over }
   where
     fits : (m : Written) → m .full ≡ false → m .count + 1 ≤ length (m .new) → put t m ≡ after m (t ∷ []) []
     fits m e h =
         let z : suc (m .count) ≡ m .count + 1 = omega arith in
         rw (e, lt-ltb (m .count) (length (m .new)) (omega (arith, h))) (ap (λ (n : ℕ). wrote (set (m .new) (m .count) (termNumber t)) n (m .met) false) z)
+
+    over : (m : Written) → m .full ≡ false → m .count ≤ length (m .new) → length (m .new) < m .count + 1 → Spilt (m .new) (m .count) (t ∷ []) (put t m)
+    over m e l h =
+        let none : 0 ≡ length (m .new) - m .count = omega (arith, h) in
+        let is : put t m ≡ filled m = rw (e, le-ltb (m .count) (length (m .new)) (omega (arith, h))) in
+        subst (Spilt (m .new) (m .count) (t ∷ [])) (sym is)
+        (record {
+          front = ap (λ (n : ℕ). sets (m .new) (m .count) (map termNumber (take n (t ∷ [])))) none;
+          at-end = omega (arith, l, h);
+          no-room = refl;
+        })
 
 pub does-meet : (w : ℕ) → Does (meet w) [] (w ∷ [])
 unfolding meet
@@ -81,14 +123,16 @@ module _ (f g : Written → Written) (a b : List Term) (u v : List ℕ) (hf : Do
       fits : (m : Written) → m .full ≡ false → m .count + length (a ++ b) ≤ length (m .new) → g (f m) ≡ after m (a ++ b) (u ++ v)
       fits m e h = ap g (hf .fits m e (omega (arith, h, long))) ∙ hg .fits (after m a u) refl (omega (arith, h, long, room m)) ∙ twice m
 
-      over : (m : Written) → m .full ≡ false → m .count ≤ length (m .new) → length (m .new) < m .count + length (a ++ b) → g (f m) .full ≡ true
+      over : (m : Written) → m .full ≡ false → m .count ≤ length (m .new) → length (m .new) < m .count + length (a ++ b) → Spilt (m .new) (m .count) (a ++ b) (g (f m))
       over m e l h = step (decLt (length (m .new)) (m .count + length a))
         where
-          step : Dec (length (m .new) < m .count + length a) → g (f m) .full ≡ true
-          step (yes k) = let q = hf .over m e l k in ap (λ (x : Written). x .full) (hg .stays (f m) q) ∙ q
+          step : Dec (length (m .new) < m .count + length a) → Spilt (m .new) (m .count) (a ++ b) (g (f m))
+          step (yes k) =
+              let q = hf .over m e l k in
+              subst (Spilt (m .new) (m .count) (a ++ b)) (sym (hg .stays (f m) (q .no-room))) (spilt-before (m .new) (m .count) a b (f m) (omega (arith, k)) q)
           step (no k) =
-              ap (λ (x : Written). g x .full) (hf .fits m e (omega (arith, k)))
-              ∙ hg .over (after m a u) refl (omega (arith, k, room m)) (omega (arith, h, long, room m))
+              subst (λ (x : Written). Spilt (m .new) (m .count) (a ++ b) (g x)) (sym (hf .fits m e (omega (arith, k))))
+              (spilt-behind (m .new) (m .count) a b (g (after m a u)) (omega (arith, k)) (hg .over (after m a u) refl (omega (arith, k, room m)) (omega (arith, h, long, room m))))
 
 -- ---- expansion
 

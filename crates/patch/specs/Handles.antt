@@ -1,14 +1,15 @@
 -- The patched lists as numbers in stores.
 --
 --   handlesFrom n os    the numbers of operands that are written one after the other to the new store, from the place n on
+--   cutAt n os          operands that are written one after the other where there is room for n terms: of each the terms that there is room for
 --   keepBy q ds hs      of the numbers hs those whose destination passes the test
 --   commitsFrom c ds w n  the committed definitions of the wires w, w + 1, .., n of them
 --
 -- Assumes nothing.
-use Prim.Native.Nat.{ℕ, zero, suc, _+_}
+use Prim.Native.Nat.{ℕ, zero, suc, _+_, _-_}
 use mathlib.Core.Bool.{Bool, true, cond}
 use mathlib.Core.List.{List, [], _∷_, _++_}
-use lib.ListN.{length}
+use lib.ListN.{length, take}
 use Rattle.operand.specs.Numbers.{Operand, operandNumber}
 use Rattle.lower.specs.Model.{Definition}
 use Rattle.patch.specs.Patch.{commitAt}
@@ -16,6 +17,10 @@ use Rattle.patch.specs.Patch.{commitAt}
 unfoldable pub handlesFrom : ℕ → List Operand → List ℕ
 handlesFrom n [] = []
 handlesFrom n (o ∷ os) = operandNumber (record { start = n; len = length o; new = true }) ∷ handlesFrom (n + length o) os
+
+unfoldable pub cutAt : ℕ → List Operand → List Operand
+cutAt n [] = []
+cutAt n (o ∷ os) = take n o ∷ cutAt (n - length o) os
 
 unfoldable pub keepBy : (ℕ → Bool) → List ℕ → List ℕ → List ℕ
 keepBy q [] hs = []

@@ -10,6 +10,7 @@
 --   spell              a term expanded and written; spellUnder, the terms of its definition that are left
 --   look .. u          the mask of a term u of a definition: the bits that can be set in its wire, below its shift; all where the wire stands
 --   Sees k i o         the mask k takes in just what gets through the shifts i, then o
+--   NextLive ms from k r   r is the first place from `from` on whose mask k takes in something, or the end of the masks ms
 --   laid .. u          the entry of a term u of a definition, one number: its shift and its wire where that stands, else its shift, the
 --                      definition in the wire's place, and a mark
 --   Entries, Lookable  what writing the masks and the entries of terms leaves, and what it asks
@@ -119,6 +120,9 @@ spell s (suc n) t m = cond (m .full) m (spellBy s (spell s n) t (inPlace s (t .w
 
 abbrev pub Sees : ℕ → Shift → Shift → Type 0
 Sees k i o = (k < 2 ^ 64) × ((w : ℕ) → w < 2 ^ 64 → (bitAnd w k ≡ 0 → applyOf o (applyOf i w) ≡ 0) × (applyOf o (applyOf i w) ≡ 0 → bitAnd w k ≡ 0))
+
+abbrev pub NextLive : List ℕ → ℕ → ℕ → ℕ → Type 0
+NextLive ms from k r = (from ≤ r) × (r ≤ length ms) × ((i : ℕ) → from ≤ i → i < r → bitAnd (getD ms i 0) k ≡ 0) × (r < length ms → bitAnd (getD ms r 0) k ≡ 0 → ⊥)
 
 -- n is the node of what is put in the place of the term's wire
 abbrev pub lookBy : List ℕ → Term → ℕ → ℕ

@@ -4,16 +4,17 @@
 --   put t, meet w      a term is written; the definition of a wire is met. Once a term found no room nothing is done
 --   writeTerm          a term expanded: it stands, or its definition is met and writeBelow goes through the definition's terms
 --   writeOperand       an operand's terms, one after the other; writeAll, operands one after the other
---   Does f ts ws       f writes the terms ts and marks the wires ws, or finds no room for all of ts
+--   Spilt              a store that is full of the first of some terms, and a term found no room
+--   Does f ts ws       f writes the terms ts and marks the wires ws; where there is no room for all of ts, as many as there is room for
 --
 -- Assumes nothing.
 use mathlib.Core.Path.{_≡_}
-use Prim.Native.Nat.{ℕ, zero, suc, _+_, _≤_, _<_}
+use Prim.Native.Nat.{ℕ, zero, suc, _+_, _-_, _≤_, _<_}
 use mathlib.Core.Bool.{Bool, true, false, cond}
 use mathlib.Core.List.{List, [], _∷_, map}
 use mathlib.Core.Option.{Option, none, some}
 use lib.Dec.{ltb}
-use lib.ListN.{length, set}
+use lib.ListN.{length, take, set}
 use lib.Seq.{sets}
 use Rattle.operand.specs.declared.PushInner.{PushInner}
 use Rattle.operand.specs.declared.PushInner.the-variants.{Seq, Zero, OverBudget}
@@ -85,7 +86,13 @@ module _ (p : System) (c : ℕ → Bool) where
 abbrev pub after : Written → List Term → List ℕ → Written
 after m ts ws = wrote (sets (m .new) (m .count) (map termNumber ts)) (m .count + length ts) (marks (m .met) ws) false
 
+-- new and count are the store and how many it had before
+pub record Spilt (new : List ℕ) (count : ℕ) (ts : List Term) (m : Written) : Type 0 where
+  pub front : m .new ≡ sets new count (map termNumber (take (length new - count) ts))
+  pub at-end : m .count ≡ length new
+  pub no-room : m .full ≡ true
+
 pub record Does (f : Written → Written) (ts : List Term) (ws : List ℕ) : Type 0 where
   pub stays : (m : Written) → m .full ≡ true → f m ≡ m
   pub fits : (m : Written) → m .full ≡ false → m .count + length ts ≤ length (m .new) → f m ≡ after m ts ws
-  pub over : (m : Written) → m .full ≡ false → m .count ≤ length (m .new) → length (m .new) < m .count + length ts → f m .full ≡ true
+  pub over : (m : Written) → m .full ≡ false → m .count ≤ length (m .new) → length (m .new) < m .count + length ts → Spilt (m .new) (m .count) ts (f m)

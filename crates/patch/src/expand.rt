@@ -21,7 +21,7 @@ ghost use Rattle.legraph.specs.Tables.{toldNode};
 ghost use Rattle.legraph.specs.Walked.{rhsIn};
 ghost use Rattle.patch.specs.Expansion.{Within};
 ghost use Rattle.patch.specs.Steps.{put, writeDown};
-ghost use Rattle.patch.specs.Spelling.{Source, source, inPlace, inlinedNumber, spelt, cursorAt, speltTo, innerOf, outerOf, bare, Over, foldedAs, spellUnder, spell, Sees, look, laid, Entries, Lookable, Looks, Readable, reading, Opened, Openable, Entered, Enterable};
+ghost use Rattle.patch.specs.Spelling.{Source, source, inPlace, inlinedNumber, spelt, cursorAt, speltTo, innerOf, outerOf, bare, Over, foldedAs, spellUnder, spell, Sees, NextLive, look, laid, Entries, Lookable, Looks, Readable, reading, Opened, Openable, Entered, Enterable};
 use crate::Cursor;
 use crate::Folded;
 use legraph::Node;
@@ -135,7 +135,7 @@ fn part<'a>(store: &'a [u64], at: usize, n: usize) -> &'a [u64]
 // The first term from `from` on of which the mask takes in something: most terms are passed over here, so this does little else.
 fn next_live(ms: &[u64], from: usize, mask: u64) -> usize
     requires { ⌜ from ≤ length (now ms) ⌝ }
-    ensures { λ r. ⌜ (from ≤ r) × (r ≤ length (now (ms .entry))) × ((i : ℕ) → from ≤ i → i < r → bitAnd (getD (now (ms .entry)) i 0) mask ≡ 0) × (r < length (now (ms .entry)) → bitAnd (getD (now (ms .entry)) r 0) mask ≡ 0 → ⊥) ⌝ }
+    ensures { λ r. ⌜ NextLive (now (ms .entry)) from mask r ⌝ }
 {
     let mut i = from;
     while i < ms.len() {

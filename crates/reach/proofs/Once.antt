@@ -17,7 +17,7 @@ use Rattle.legraph.proofs.Listing.{found-at, found-by}
 use Rattle.legraph.proofs.Theorem.{count, dst-same, small}
 use Rattle.reach.specs.Alive.{AliveIn}
 use Rattle.reach.specs.Reach.{ReachIn}
-use Rattle.reach.specs.Steps.{Filled, Order}
+use Rattle.reach.specs.Steps.{Gathered, Filled, Order}
 use Rattle.reach.proofs.Meeting.{defines-by}
 use Rattle.reach.proofs.Reaching.{reach-only}
 use Rattle.reach.proofs.Ordered.{straight-by}
@@ -32,6 +32,9 @@ same-stores (suc n) (x ∷ a) (y ∷ b) l f e = ap₂ (λ (v : ℕ) (w : List �
 
 filled-same : (n : ℕ) (before a b : List ℕ) → Filled n before a → Filled n before b → ((d : ℕ) → d < n → getD a d 0 ≡ getD b d 0) → a ≡ b
 filled-same n before a b f g h = same-stores n a b (f .long ∙ sym (g .long)) h (f .kept ∙ sym (g .kept))
+
+pub gathered-once : (n : ℕ) (dsts masks before a b : List ℕ) → Gathered n dsts masks a → Filled n before a → Gathered n dsts masks b → Filled n before b → a ≡ b
+gathered-once n dsts masks before a b i f j g = filled-same n before a b f g (λ d l. i .gathered d l ∙ sym (j .gathered d l))
 
 -- THE THEOREMS. Two stores after the call, from the same store before, are equal.
 pub alive-once : (p : System) (c : ℕ → Bool) (n : ℕ) (dsts before a b : List ℕ) → AliveIn p c n dsts a → Filled n before a → AliveIn p c n dsts b → Filled n before b → a ≡ b

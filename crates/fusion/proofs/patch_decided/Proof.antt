@@ -2,7 +2,8 @@
 use Rattle.fusion.proofs.Running.{room-lacks, room-has, room-holds, patched-answer}
 use Rattle.fusion.specs.Answer.{toldFused}
 use Rattle.fusion.specs.Steps.{short}
-use Rattle.fusion.specs.Left.{Lent, lent}
+use Rattle.fusion.specs.Left.{Lent, lent, input}
+use Rattle.fusion.proofs.Making.{operands-few}
 use lib.ListN.{length-replicate}
 use Prim.Native.Nat.{ℕ}
 use mathlib.Core.Path.{refl, sym, _∙_}
@@ -47,7 +48,7 @@ returns : tie.Need-returns
 unfolding toldFused
 returns c = let s = c .before .before .before .before .before .before .before .before .before .before .before .before .before .before .before .before .before .before .before .before .before .before .before .before .before .before .before in
     let l : Lent = lent (s .args .old .now) (s .args .new .now) (s .args .ands .now) (s .args .imuls .now) (s .args .bmuls .now) (s .args .zeros .now) (s .args .dsts .now) (s .args .rhss .now) (s .args .flags .now) in
-    short (room-lacks (s .args .z) l _ _ _ _ _ _ (c .before .before .before .before .before .rebuild .ensures .1) (length-replicate {A = ℕ} 16384 0) (sym (c .before .lacks-room .ensures) ∙ c .if1 .taken)) refl
+    short (room-lacks (s .args .z) l _ _ _ _ _ _ (c .before .before .before .before .before .rebuild .ensures .1 .1) (length-replicate {A = ℕ} 16384 0) (sym (c .before .lacks-room .ensures) ∙ c .if1 .taken)) refl
 
 slice-aggregate-apply-patches : tie.Need-slice-aggregate-apply-patches
 slice-aggregate-apply-patches c = search needs
@@ -62,8 +63,8 @@ apply-patches-requires : tie.Need-apply-patches-requires
 apply-patches-requires c κs = let s = c .before .before .before .before .before .before .before .before .before .before .before .before .before .before .before .before .before .before .before .before .before .before .before .before .before .before .before .before .before .before .before .before .before .before .before .before .before .before in
     let l : Lent = lent (s .args .old .now) (s .args .new .now) (s .args .ands .now) (s .args .imuls .now) (s .args .bmuls .now) (s .args .zeros .now) (s .args .dsts .now) (s .args .rhss .now) (s .args .flags .now) in
     let e = c .before .before .before .before .before .before .before .before .before .before .before .before .before .before .before .before .rebuild .ensures in
-    let h = room-has (s .args .z) l _ _ _ _ _ _ (e .1) (length-replicate {A = ℕ} 16384 0) (sym (c .before .before .before .before .before .before .before .before .before .before .before .before .lacks-room .ensures) ∙ c .before .before .before .before .before .before .before .before .before .before .before .if1 .left) in
-    (s .pre .0, (s .pre .1 .table-is, (e .0, (room-holds (s .args .z) l _ _ _ _ _ _ (e .1) (length-replicate {A = ℕ} 16384 0) h, h))))
+    let h = room-has (s .args .z) l _ _ _ _ _ _ (e .1 .1) (length-replicate {A = ℕ} 16384 0) (sym (c .before .before .before .before .before .before .before .before .before .before .before .before .lacks-room .ensures) ∙ c .before .before .before .before .before .before .before .before .before .before .before .if1 .left) in
+    (s .pre .0, (s .pre .1 .table-is, (e .0, (room-holds (s .args .z) l _ _ _ _ _ _ (e .1 .1) (length-replicate {A = ℕ} 16384 0) (length-replicate {A = ℕ} 7168 0) (operands-few (s .args .z) (input l) (s .args .decisions .now) (s .pre .0)) h, h))))
 
 same-length-7 : tie.Need-same-length-7
 same-length-7 c = search needs
@@ -93,7 +94,7 @@ returns-2 : tie.Need-returns-2
 returns-2 c = let s = c .before .before .before .before .before .before .before .before .before .before .before .before .before .before .before .before .before .before .before .before .before .before .before .before .before .before .before .before .before .before .before .before .before .before .before .before .before .before .before .before .before .before .before .before .before .before .before .before .before .before .before .before .before .before .before in
     let l : Lent = lent (s .args .old .now) (s .args .new .now) (s .args .ands .now) (s .args .imuls .now) (s .args .bmuls .now) (s .args .zeros .now) (s .args .dsts .now) (s .args .rhss .now) (s .args .flags .now) in
     let e = c .before .before .before .before .before .before .before .before .before .before .before .before .before .before .before .before .before .before .before .before .before .before .before .before .before .before .before .before .before .before .before .before .before .rebuild .ensures in
-    let h = room-has (s .args .z) l _ _ _ _ _ _ (e .1) (length-replicate {A = ℕ} 16384 0) (sym (c .before .before .before .before .before .before .before .before .before .before .before .before .before .before .before .before .before .before .before .before .before .before .before .before .before .before .before .before .before .lacks-room .ensures) ∙ c .before .before .before .before .before .before .before .before .before .before .before .before .before .before .before .before .before .before .before .before .before .before .before .before .before .before .before .before .if1 .left) in
+    let h = room-has (s .args .z) l _ _ _ _ _ _ (e .1 .1) (length-replicate {A = ℕ} 16384 0) (sym (c .before .before .before .before .before .before .before .before .before .before .before .before .before .before .before .before .before .before .before .before .before .before .before .before .before .before .before .before .before .lacks-room .ensures) ∙ c .before .before .before .before .before .before .before .before .before .before .before .before .before .before .before .before .before .before .before .before .before .before .before .before .before .before .before .before .if1 .left) in
     patched-answer _ _ l _ _ h (c .before .before .before .before .before .before .before .before .before .before .before .before .before .before .before .before .apply-patches .ensures .0) (c .before .before .before .before .before .before .before .before .before .before .before .before .before .before .before .before .apply-patches .ensures .1)
 
 pub patch-decided-spec : {M : Type 1} → statement M

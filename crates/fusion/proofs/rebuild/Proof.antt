@@ -77,7 +77,7 @@ returns c = let s = c .before .before .before .before .before .before .before .b
     let st : Stores = stores (s .args .old .now) [] (s .args .ands .now) (s .args .imuls .now) (s .args .bmuls .now) (s .args .zeros .now) (s .args .dsts .now) (s .args .rhss .now) in
     let e = c .before .before .before .before .before .before .before .before .before .before .before .before .before .before .before .before .before .masks .ensures in
     let w = c .before .before .before .before .before .before .before .before .before .before .before .write-looks .ensures in
-    (e .1 .0, rebuilt-made (s .args .z) st (s .args .decisions .now) (s .pre .0) _ (λ d h. w .0 d (mask-first (s .args .z) st (s .args .decisions .now) (s .pre .0) d h) ∙ e .0 d h) _ _ _ _ _ _ (s .pre .1 .0 .table-is) (c .before .before .before .before .before .build .ensures .0) (s .pre .1 .1 .2))
+    (e .1 .0, (e .1 .1 .1, rebuilt-made (s .args .z) st (s .args .decisions .now) (s .pre .0) _ (λ d h. w .0 d (mask-first (s .args .z) st (s .args .decisions .now) (s .pre .0) d h) ∙ e .0 d h) _ _ _ _ _ _ (s .pre .1 .0 .table-is) (c .before .before .before .before .before .build .ensures .0) (s .pre .1 .1 .2)))
 
 pub rebuild-spec : {M : Type 1} → statement M
 rebuild-spec =
