@@ -1,5 +1,7 @@
 // Masks: the bits of a word that a shift moves to some bit of a mask. A word says a set of bits, so that one number a definition tells
 // what expansion would find out term by term.
+#![tactic(auto)]
+
 ghost use Rattle.std.specs.Prelude.{◌≡◌, ◌+◌, ◌*◌, ◌^◌, ◌<◌};
 ghost use Rattle.word.specs.Word.{halves};
 ghost use Rattle.shift.specs.Shifts.{Valid, width_of};

@@ -1,4 +1,6 @@
 // The patched lists, written over the old ones. Follows frontend/src/pass/fusion/patch.rs.
+#![tactic(auto)]
+
 ghost use Rattle.std.specs.Prelude.{◌≡◌, cond, [], ◌∷◌, ◌+◌, ◌≤◌, ◌<◌, length, get_or, take, drop};
 ghost use Rattle.std.proofs.lemmas.List.Edits.{sets};
 ghost use Rattle.lower.specs.Lists.{All};

@@ -1,4 +1,6 @@
 // Which definitions commit. Follows frontend/src/pass/fusion/commit_set.rs.
+#![tactic(auto)]
+
 ghost use Rattle.std.specs.Prelude.{◌≡◌, ℕ, ◌<◌, ◌≤◌, false, length, take, drop, replicate};
 ghost use mathlib.Core.List.{Memᴰ};
 ghost use Rattle.lower.specs.Lists.{All};
@@ -32,7 +34,7 @@ pub const MAX_DEPTH: usize = 6;
 pub const MAX_TERM_GROWTH: usize = 4;
 
 // Shifts of a path that come to one slot.
-#[derive(Drop)]
+#[derive(Clone, Copy)]
 pub struct Run {
     // one bit for each variant in it
     pub variants: u8,
@@ -40,20 +42,20 @@ pub struct Run {
 }
 
 // The shifts of a path as runs, the outermost first.
-#[derive(Drop)]
+#[derive(Clone, Copy)]
 pub struct ShiftSummary {
     pub first: Run,
     pub second: Run,
     pub len: u8,
 }
 
-#[derive(Drop)]
+#[derive(Clone, Copy)]
 pub struct CommitSetCx {
     pub shifts: ShiftSummary,
     pub depth: usize,
 }
 
-#[derive(Drop)]
+#[derive(Clone, Copy)]
 pub enum Decision {
     Commit,
     Inline(CommitSetCx),

@@ -1,4 +1,6 @@
 // The evaluator: the values of all operands under an assignment, in the writer's order.
+#![tactic(auto)]
+
 ghost use Rattle.std.specs.Prelude.{◌≡◌, ◌+◌, ◌^◌, ◌<◌, ◌≤◌, length, set, take};
 ghost use Rattle.std.proofs.lemmas.List.Edits.{sets};
 ghost use Rattle.lower.specs.Lists.{All};
@@ -16,7 +18,7 @@ pub const SIZE: u8 = 13;
 pub const ROOM: u8 = 12;
 
 // How many values there are, or a number.
-#[derive(Drop)]
+#[derive(Clone, Copy)]
 pub enum Evaluated {
     Done { count: usize },
     Refused { number: u8 },

@@ -1,4 +1,6 @@
 // Filling back: the words of uncommitted defined wires by their definitions.
+#![tactic(auto)]
+
 ghost use Rattle.std.specs.Prelude.{◌≡◌, [], ℕ, ◌<◌, replicate};
 ghost use Rattle.lower.specs.Accepted.{MAX_TERMS};
 ghost use Rattle.lower.specs.Stores.{stores};

@@ -3,7 +3,7 @@ ghost use Rattle.std.specs.Prelude.{◌≡◌};
 ghost use Rattle.fuse.specs.Asked.{same_text, slots_of, file_of, committed_of, one_word, two_words, asked_by};
 
 // The fused file or the committed wires, with so many slots; or nothing that there is.
-#[derive(Drop)]
+#[derive(Clone, Copy)]
 pub enum Asked {
     File(u64),
     Committed(u64),

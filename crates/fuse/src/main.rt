@@ -2,6 +2,8 @@
 // refusal goes to standard error, and nothing to standard output.
 //
 //   fuse [1|2] [committed]     slots, 2 if not given
+#![tactic(auto)]
+
 ghost use Rattle.std.specs.Prelude.{length};
 ghost use Rattle.fuse.specs.Printed.{Covers};
 

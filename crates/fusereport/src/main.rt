@@ -1,4 +1,6 @@
 // Reads a house file from standard input, and prints what fusing it comes to on one line: `refused N`, or `ok` and nine counts.
+#![tactic(auto)]
+
 use house_write::Written;
 use libc::{STDIN_FILENO, STDOUT_FILENO};
 

@@ -1,4 +1,6 @@
 // The fusion pass: decide, rebuild, patch. Follows frontend/src/pass/fusion.
+#![tactic(auto)]
+
 ghost use Rattle.std.specs.Prelude.{◌≡◌, true, [], ◌++◌, ◌+◌, ◌≤◌, length, take, drop, replicate};
 ghost use Rattle.std.proofs.lemmas.List.Edits.{sets};
 ghost use Rattle.lower.specs.Stores.{stores, system_of};
@@ -21,7 +23,7 @@ const MAX_OPERANDS: usize = 7168;
 const MAX_NEW_TERMS: usize = 16384;
 
 // What is told of a patched system.
-#[derive(Drop)]
+#[derive(Clone, Copy)]
 pub struct Counts {
     pub gone: usize,
     pub stranded: usize,
@@ -33,13 +35,13 @@ pub struct Counts {
 }
 
 // How many definitions are left of each sort.
-#[derive(Drop)]
+#[derive(Clone, Copy)]
 struct Linears {
     stranded: usize,
     committed: usize,
 }
 
-#[derive(Drop)]
+#[derive(Clone, Copy)]
 pub enum Fused {
     Done(Counts),
     Refused(u8),

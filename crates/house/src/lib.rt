@@ -1,4 +1,6 @@
 // The house file: its reader and its writer.
+#![tactic(auto)]
+
 ghost use Rattle.lower.specs.Stores.{stores};
 ghost use Rattle.house_read.specs.Answer.{ReadIs};
 ghost use Rattle.house_write.specs.Write.{WriteIs};

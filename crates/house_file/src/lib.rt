@@ -1,4 +1,6 @@
 // The house file: what its reader and its writer share.
+#![tactic(auto)]
+
 ghost use Rattle.std.specs.Prelude.{◌≡◌, ◌+◌, ◌^◌, ◌<◌, ◌≤◌, get_or};
 ghost use Rattle.house_file.specs.Format.{arity};
 ghost use Rattle.house_file.specs.Decoding.{u16_at, operands_start};
@@ -20,7 +22,7 @@ pub const LINEAR: usize = 6;
 pub const END: usize = 7;
 
 // How many fields of each kind were met, and terms.
-#[derive(Drop)]
+#[derive(Clone, Copy)]
 pub struct Counts {
     pub ands: usize,
     pub imuls: usize,
@@ -31,14 +33,14 @@ pub struct Counts {
 }
 
 // What reading comes to: the counts of the system that was read, or a number and the offset of the field.
-#[derive(Drop)]
+#[derive(Clone, Copy)]
 pub enum Read {
     Refused { number: u8, at: usize },
     Done { sizes: Sizes, terms: usize },
 }
 
 // One field: the answer, or on with the next.
-#[derive(Drop)]
+#[derive(Clone, Copy)]
 pub enum Turn {
     Stop(Read),
     Go { at: usize, counts: Counts },

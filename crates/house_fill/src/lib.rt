@@ -1,5 +1,7 @@
 // The second pass over a house file: each store is filled by a walk of its own. What a file says is laid out whether it is sound or not;
 // the first pass has refused it if it is not. A number past a store's end is dropped.
+#![tactic(auto)]
+
 ghost use Rattle.std.specs.Prelude.{◌≡◌, ◌+◌, ◌*◌, ◌^◌, ◌<◌, ◌≤◌, length, set, map};
 ghost use Rattle.std.proofs.lemmas.List.Edits.{sets};
 ghost use Rattle.operand.specs.Numbers.{term_number};

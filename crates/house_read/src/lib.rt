@@ -1,4 +1,6 @@
 // The reader of the house file: one pass that looks for faults and counts, and one walk for each store.
+#![tactic(auto)]
+
 ghost use Rattle.std.specs.Prelude.{◌≡◌, ◌<◌, ◌≤◌};
 ghost use Rattle.house_file.specs.Reading.{total};
 ghost use Rattle.house_read.specs.Answer.{Fits, room_of, ReadIs};

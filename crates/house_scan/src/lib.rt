@@ -1,5 +1,7 @@
 // The first pass over a house file: the first fault in byte order with the offset of its field's tag, or what the file counts. It writes
 // nothing.
+#![tactic(auto)]
+
 ghost use Rattle.std.specs.Prelude.{◌≡◌, ◌+◌, ◌*◌, ◌^◌, ◌<◌, ◌≤◌, length, get_or};
 ghost use Rattle.lower.specs.Faults.{first_fault, term_fault};
 ghost use Rattle.house_file.specs.Format.{arity};
@@ -12,14 +14,14 @@ use lower::Sizes;
 use shift::{Found, Shift};
 
 // A part of a field: where the next one starts and how many terms it had, or the fault with its field's offset.
-#[derive(Drop)]
+#[derive(Clone, Copy)]
 pub enum Part {
     Fine { next: usize, terms: usize },
     Bad { number: u8, at: usize },
 }
 
 // A field's tag and the offset after it, or a fault.
-#[derive(Drop)]
+#[derive(Clone, Copy)]
 pub enum Head {
     Open { tag: usize, end: usize },
     Shut { number: u8 },

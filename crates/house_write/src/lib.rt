@@ -1,4 +1,6 @@
 // The writer of the house file: the checks in memory, one pass that counts the bytes, and one that writes them.
+#![tactic(auto)]
+
 ghost use Rattle.std.specs.Prelude.{◌≡◌};
 ghost use Rattle.lower.specs.Stores.{stores};
 ghost use Rattle.house_write.specs.Write.{write_fault, WriteIs};
@@ -9,7 +11,7 @@ mod count;
 mod emit;
 
 // What writing comes to: how many bytes the file has, or a number.
-#[derive(Drop)]
+#[derive(Clone, Copy)]
 pub enum Written {
     Done { length: usize },
     Refused { number: u8 },

@@ -1,4 +1,6 @@
 // Uses and definitions. Follows frontend/src/pass/fusion/legraph.rs; the walk, which also finds circles, is added.
+#![tactic(auto)]
+
 ghost use Rattle.std.specs.Prelude.{◌≡◌, ℕ, ◌<◌, ◌≤◌, length, get_or, set, take};
 ghost use Rattle.lower.specs.Lists.{All};
 ghost use Rattle.legraph.specs.Tables.{numbered, told_node};
@@ -9,14 +11,14 @@ pub mod post_order;
 pub mod uses;
 
 // What a wire is: defined by a definition, or not.
-#[derive(Drop)]
+#[derive(Clone, Copy)]
 pub enum Node {
     LinDef(LinDefId),
     Opaque,
 }
 
 // How much of the order is left, and whether a circle was met.
-#[derive(Drop)]
+#[derive(Clone, Copy)]
 pub struct Walk {
     pub left: usize,
     pub circle: bool,

@@ -1,4 +1,6 @@
 // The five lists of a constraint system in lent stores. Follows frontend/src/lower/mod.rs; the checks are added.
+#![tactic(auto)]
+
 ghost use Rattle.std.specs.Prelude.{◌≡◌, ◌≤◌};
 ghost use Rattle.operand.specs.Numbers.{operand_at, terms_at};
 ghost use Rattle.lower.specs.Accepted.{MAX_WIRES};
@@ -40,7 +42,7 @@ pub const MAX_TERMS: u64 = 8192;
 pub const MAX_WRITTEN_TERMS: u64 = 24576;
 
 // How many wires there are, rows of each kind, and definitions.
-#[derive(Drop)]
+#[derive(Clone, Copy)]
 pub struct Sizes {
     pub wires: usize,
     pub ands: usize,

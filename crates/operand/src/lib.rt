@@ -1,4 +1,6 @@
 // A term of an operand is a wire with two shifts, and an operand a part of a store of terms. Follows frontend/src/lower/operand.rs.
+#![tactic(auto)]
+
 ghost use Rattle.std.specs.Prelude.{◌≡◌, ◌&&◌, eqb};
 ghost use Rattle.word.specs.Answers.{checked};
 ghost use Rattle.shift.specs.Shifts.{valid, identity};
@@ -12,17 +14,17 @@ pub mod term;
 pub mod valid;
 
 // The numbers of a wire, a definition and a constraint: one is not taken for another.
-#[derive(Drop)]
+#[derive(Clone, Copy)]
 pub struct Wire(pub u16);
 
-#[derive(Drop)]
+#[derive(Clone, Copy)]
 pub struct LinDefId(pub u16);
 
-#[derive(Drop)]
+#[derive(Clone, Copy)]
 pub struct ConstraintId(pub u16);
 
 // A wire and the two shifts folded into the term, the inner one applied first.
-#[derive(Drop)]
+#[derive(Clone, Copy)]
 pub struct ShiftedWire {
     pub wire: Wire,
     pub inner: Shift,
@@ -30,7 +32,7 @@ pub struct ShiftedWire {
 }
 
 // The terms from `start` on, `len` of them, in the new store or in the old one.
-#[derive(Drop)]
+#[derive(Clone, Copy)]
 pub struct WireOperand {
     pub start: u32,
     pub len: u32,
@@ -38,7 +40,7 @@ pub struct WireOperand {
 }
 
 // What folding one more shift inside two shifts comes to.
-#[derive(Drop)]
+#[derive(Clone, Copy)]
 pub enum PushInner {
     Seq(Shift, Shift),
     Zero,
@@ -46,14 +48,14 @@ pub enum PushInner {
 }
 
 // The same, or 4.
-#[derive(Drop)]
+#[derive(Clone, Copy)]
 pub enum Pushed {
     Is(PushInner),
     Refused,
 }
 
 // The one shift of a term, or 10: it has two.
-#[derive(Drop)]
+#[derive(Clone, Copy)]
 pub enum Sole {
     Shift(Shift),
     Refused,

@@ -1,4 +1,6 @@
 // Which terms write something and which definitions are met, by one mask a wire.
+#![tactic(auto)]
+
 ghost use Rattle.std.specs.Prelude.{◌≡◌, ℕ, ◌*◌, ◌<◌, ◌≤◌, length, take, drop, replicate};
 ghost use Rattle.lower.specs.Lists.{All};
 ghost use Rattle.lower.specs.Accepted.{MAX_TERMS, Once, Single};

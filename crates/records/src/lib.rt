@@ -1,4 +1,6 @@
 // The entry points over a lent slice of definition records: a caller in Rust or C lends one array. Thin walks over the number slices' form.
+#![tactic(auto)]
+
 ghost use Rattle.std.specs.Prelude.{◌≡◌, ◌≤◌, [], ◌∷◌, length, take, replicate};
 ghost use Rattle.lower.specs.Accepted.{MAX_DEFINITIONS};
 ghost use Rattle.lower.specs.Stores.{stores};
@@ -16,7 +18,7 @@ pub mod values;
 
 // A definition: its right side, as an operand's number, and its destination wire. The one place where its layout stands.
 #[repr(C)]
-#[derive(Drop)]
+#[derive(Clone, Copy)]
 pub struct Definition {
     pub rhs: u64,
     pub dst: u16,

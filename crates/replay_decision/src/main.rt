@@ -1,6 +1,8 @@
 // Replays decisions. The input is the harness's decision.bin: the number of vectors, and for each a house file, slots, a refusal's number
 // (0 for none) and a flag for each wire, 1 for committed. What is printed: how many vectors were answered so and how many not, the
 // committed wires, a digest of all flags and of the decisions' numbers; and of further calls how many were answered as they have to be.
+#![tactic(auto)]
+
 ghost use Rattle.std.specs.Prelude.{◌≡◌, ◌+◌, ◌^◌, ◌<◌, ◌≤◌, [], length, slice_index};
 ghost use Rattle.lower.specs.Stores.{stores};
 ghost use Rattle.replay_decision.specs.Replay.{number_at, vector_at, part_of, same_of, marked_by, flags_of, equal_places, count_from, mixed, digest_of, untouched_from, vector_counted, check_counted, refused_right, decided_right, judged_flags, judged, wrong_slots, Answers, AnswersIn, SlotsChecked, RoomChecked, FurtherChecked, SystemReplayed, ReadReplayed, VectorReplayed, ReplayedAll};
@@ -15,7 +17,7 @@ const MAX_INPUT: usize = 262144;
 const UNTOUCHED: u64 = 7;
 
 // Where the parts of a vector stand: the house file up to `answer`, the flags up to `end`.
-#[derive(Drop)]
+#[derive(Clone, Copy)]
 struct Vector {
     file: usize,
     answer: usize,
@@ -26,7 +28,7 @@ struct Vector {
 }
 
 // Vectors, committed wires, a digest, and further checks.
-#[derive(Drop)]
+#[derive(Clone, Copy)]
 struct Tally {
     right: u64,
     wrong: u64,

@@ -10,7 +10,7 @@ use house_write::Written;
 use lower::Sizes;
 
 // What a vector tells of fusing.
-#[derive(Drop)]
+#[derive(Clone, Copy)]
 pub struct Told {
     pub refusal: usize,
     pub gone: usize,
@@ -21,7 +21,7 @@ pub struct Told {
 }
 
 // Whether a call was answered as told, and what goes to the sums.
-#[derive(Drop)]
+#[derive(Clone, Copy)]
 pub struct Seen {
     pub right: bool,
     pub gone: usize,
@@ -32,7 +32,7 @@ pub struct Seen {
 }
 
 // From which place on each store has to be as it was.
-#[derive(Drop)]
+#[derive(Clone, Copy)]
 pub struct Starts {
     pub new: usize,
     pub ands: usize,
@@ -44,7 +44,7 @@ pub struct Starts {
 }
 
 // Whether the file written is the told one, and the digest with it.
-#[derive(Drop)]
+#[derive(Clone, Copy)]
 pub struct Bytes {
     pub right: bool,
     pub digest: u64,

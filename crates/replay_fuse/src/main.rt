@@ -2,6 +2,8 @@
 // store, a refusal's number (0 for none), the patched lists as a house file, and five counts. What is printed: how many vectors were
 // answered so and how many not, the counts in all, a digest of all files written; and of further calls how many were answered as they
 // have to be.
+#![tactic(auto)]
+
 ghost use Rattle.std.specs.Prelude.{◌≡◌, ◌+◌, ◌^◌, ◌<◌, ◌≤◌, length};
 ghost use Rattle.replay_fuse.specs.Replay.{number_at, vector_at, told_at, VectorReplayed, ReplayedAll};
 
@@ -18,7 +20,7 @@ mod tally;
 const MAX_INPUT: usize = 262144;
 
 // Where the parts of a vector stand: the house file up to `answer`, the result up to `counts`.
-#[derive(Drop)]
+#[derive(Clone, Copy)]
 struct Vector {
     file: usize,
     answer: usize,

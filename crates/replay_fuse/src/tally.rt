@@ -5,7 +5,7 @@ ghost use Rattle.replay_fuse.specs.Tallies.{plus_if, nothing_counted, vector_cou
 use crate::judge::Seen;
 
 // Vectors, what fusing told of them, a digest of the files written, and further checks.
-#[derive(Drop)]
+#[derive(Clone, Copy)]
 pub struct Tally {
     pub right: u64,
     pub wrong: u64,

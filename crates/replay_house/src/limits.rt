@@ -10,7 +10,7 @@ use operand::{Wire, WireOperand};
 
 // A system by its counts and by how many terms each operand of a row has and each right side; the number that writing gives; how many bytes
 // of the first record are put into the file once more; the number that reading gives then, and how far its offset is from the file's end.
-#[derive(Drop)]
+#[derive(Clone, Copy)]
 pub struct Case {
     sizes: Sizes,
     row: usize,
@@ -334,7 +334,7 @@ fn fill(
 }
 
 // The number that writing the system gives, or 0; and how many bytes were written.
-#[derive(Drop)]
+#[derive(Clone, Copy)]
 struct Made {
     number: usize,
     length: usize,

@@ -1,6 +1,8 @@
 // Replays the vectors of the house file, and writes and reads files at the limits. The input is the number of vectors, then each: the
 // length of a file, the file, and what it has to be answered with: number, offset, wires, five counts, terms. All numbers have four bytes.
 // What is printed: how many checks were right and wrong, and a digest of all that was read.
+#![tactic(auto)]
+
 ghost use Rattle.std.specs.Prelude.{◌≡◌, ◌+◌, ◌^◌, ◌<◌, if◌then◌else◌, nat_eq};
 ghost use Rattle.replay_house.specs.Replay.{number_at, expected_at, state_of, file_of_vector, vector_of, vectors_of};
 

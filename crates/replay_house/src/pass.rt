@@ -11,7 +11,7 @@ use house_write::Written;
 use lower::Sizes;
 
 // What reading and then writing came to: number and offset of the reader's refusal, or the counts; number of the writer's, or the length.
-#[derive(Drop)]
+#[derive(Clone, Copy)]
 pub struct Seen {
     pub number: usize,
     pub at: usize,

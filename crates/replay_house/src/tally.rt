@@ -4,7 +4,7 @@ ghost use Rattle.replay_house.specs.Replay.{counted, mixed_of, with_number, with
 
 use crate::pass::Seen;
 
-#[derive(Drop)]
+#[derive(Clone, Copy)]
 pub struct Tally {
     pub right: u64,
     pub wrong: u64,

@@ -4,13 +4,15 @@
 // Memory is one array of 8192 numbers. 0 is the limit of terms; 1 to 6 the counts; from 7 on, two places for each of the eight stores
 // (old, new, ands, imuls, bmuls, zeros, destinations, right sides): where it begins and where it ends; from 23 on, what stands in them.
 // The destinations are an array of their own.
+#![tactic(auto)]
+
 ghost use Rattle.std.specs.Prelude.{◌≡◌, ◌/◌, ◌<◌, length, slice_index, slice_set};
 ghost use Rattle.replay_lower.specs.Replay.{word_at, part_of, store_at, sizes_at, checked_at, counted, state_of, step_of, after};
 
 use libc::{STDIN_FILENO, STDOUT_FILENO};
 use lower::Sizes;
 
-#[derive(Drop)]
+#[derive(Clone, Copy)]
 struct Tally {
     right: u64,
     wrong: u64,

@@ -7,7 +7,7 @@ use fusion::{Counts, Fused};
 use house_write::Written;
 
 // What a vector tells of fusing.
-#[derive(Drop)]
+#[derive(Clone, Copy)]
 pub struct Told {
     pub refusal: usize,
     pub gone: usize,
@@ -18,7 +18,7 @@ pub struct Told {
 }
 
 // Whether a vector was answered as told, and what goes to the sums.
-#[derive(Drop)]
+#[derive(Clone, Copy)]
 pub struct Seen {
     pub right: bool,
     pub gone: usize,

@@ -18,14 +18,14 @@ use lower::Sizes;
 use records::Definition;
 
 // The records of a file, and the answer to it.
-#[derive(Drop)]
+#[derive(Clone, Copy)]
 pub struct Loaded {
     pub defs: [Definition; lower::MAX_DEFINITIONS],
     pub read: Read,
 }
 
 // The records of a patched system, and the answer of fusing.
-#[derive(Drop)]
+#[derive(Clone, Copy)]
 pub struct Patched {
     pub defs: [Definition; lower::MAX_DEFINITIONS],
     pub fused: Fused,

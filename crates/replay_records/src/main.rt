@@ -2,6 +2,8 @@
 // result store, a refusal's number (0 for none), the patched lists as a house file, and five counts. Each file is read, fused and written, its
 // definitions as records, and filled back over the flags. What is printed: how many vectors were answered so and how many not, the counts in
 // all, how many definitions hold once filled back, and a digest of all files written.
+#![tactic(auto)]
+
 ghost use Rattle.std.specs.Prelude.{◌≡◌, ◌+◌, ◌^◌, ◌<◌, ◌≤◌, length};
 ghost use Rattle.replay_records.specs.Replay.{number_at, vector_at, told_at, VectorReplayed, ReplayedAll};
 
@@ -19,7 +21,7 @@ mod words;
 const MAX_INPUT: usize = 262144;
 
 // Where the parts of a vector stand: the house file up to `answer`, the result up to `counts`.
-#[derive(Drop)]
+#[derive(Clone, Copy)]
 struct Vector {
     file: usize,
     answer: usize,

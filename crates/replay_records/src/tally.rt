@@ -5,7 +5,7 @@ ghost use Rattle.replay_records.specs.Tallies.{plus_if, nothing_counted, vector_
 use crate::judge::Seen;
 
 // Vectors, what fusing told of them, the definitions that hold once filled back, a digest of the files written.
-#[derive(Drop)]
+#[derive(Clone, Copy)]
 pub struct Tally {
     pub right: u64,
     pub wrong: u64,

@@ -1,6 +1,8 @@
 // Runs compose over all pairs of valid shifts, push_inner over a spread of triples at slots 0 to 3, and apply over 300 words, and prints
 // the counts by case and a digest of all answers: the first three lines of stdout are the unchanged Rust's. The last two count answers
 // and refusals of shifts and numbers that the Rust takes differently or not at all.
+#![tactic(auto)]
+
 ghost use Rattle.std.specs.Prelude.{◌≡◌, ◌<◌};
 ghost use Rattle.word.specs.Answers.{told};
 ghost use Rattle.shift.specs.Answers.{told_number, told_composed};
@@ -15,7 +17,7 @@ use shift::{Composed, Composition, Found, Numbered, Shift, ShiftVariant};
 use word::Shifted;
 
 // How often each case of an answer came, by the case's number, and the digest of the answers so far.
-#[derive(Drop)]
+#[derive(Clone, Copy)]
 pub struct Tally {
     pub first: u64,
     pub second: u64,
@@ -24,7 +26,7 @@ pub struct Tally {
 }
 
 // The last word, and the digest so far.
-#[derive(Drop)]
+#[derive(Clone, Copy)]
 pub struct Words {
     pub word: u64,
     pub digest: u64,

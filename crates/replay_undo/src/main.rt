@@ -5,6 +5,8 @@
 // too, and its other operands have the same values, up to the order of the constraints; that each word returns when the words of all
 // uncommitted defined wires are overwritten and filled back with the flags of fusing, and stays when all wires are committed; and that what is
 // too short is refused and nothing written. What is printed: how many of each were so and how many not, and a digest of all values.
+#![tactic(auto)]
+
 ghost use Rattle.std.specs.Prelude.{◌≡◌, ◌+◌, ◌^◌, ◌<◌, ◌≤◌, length};
 ghost use Rattle.replay_undo.specs.Replay.{number_at, vector_at, VectorReplayed, ReplayedAll};
 
@@ -22,7 +24,7 @@ mod words;
 const MAX_INPUT: usize = 131072;
 
 // Where the parts of a vector stand: the house file up to `answer`.
-#[derive(Drop)]
+#[derive(Clone, Copy)]
 struct Vector {
     file: usize,
     answer: usize,

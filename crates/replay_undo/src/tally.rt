@@ -3,7 +3,7 @@ ghost use Rattle.std.specs.Prelude.{◌≡◌, ◌+◌, ◌-◌, ◌%◌, ◌^�
 ghost use Rattle.replay_undo.specs.Tallies.{nothing_counted, system_counted, words_counted, values_counted, definitions_counted, refusal_counted};
 
 // Of each kind of check how many were right and how many wrong; a digest of all values.
-#[derive(Drop)]
+#[derive(Clone, Copy)]
 pub struct Tally {
     pub systems: u64,
     pub returned: u64,

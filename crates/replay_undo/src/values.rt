@@ -12,7 +12,7 @@ use lower::Sizes;
 pub const MAX_VALUES: usize = 7168;
 
 // Where the values of each list begin, in the writer's order.
-#[derive(Drop)]
+#[derive(Clone, Copy)]
 pub struct Places {
     pub imuls: usize,
     pub bmuls: usize,

@@ -1,4 +1,6 @@
 // A house file in, and what the programs print out: the line of `fusereport`, and the fused file with the committed wires.
+#![tactic(auto)]
+
 ghost use Rattle.std.specs.Prelude.{◌≡◌, ◌≤◌, length};
 ghost use Rattle.fusion.specs.Left.{lent};
 ghost use Rattle.text.specs.Text.{ok_text, Puts, Enough};
@@ -26,7 +28,7 @@ const MAX_RESULT: usize = 16384;
 
 // What fusing a file comes to: how many bytes the fused file has, and how many wires there are; or a refusal's number, and that of the
 // reader with the offset of its field.
-#[derive(Drop)]
+#[derive(Clone, Copy)]
 pub enum FuseFile {
     Done { length: usize, wires: usize },
     Refused { number: u8 },

@@ -9,7 +9,7 @@ use house_file::Read;
 use lower::Sizes;
 
 // A refusal of the reader with the offset of its field, one of fusing, or the sizes of what was read and the counts of fusing.
-#[derive(Drop)]
+#[derive(Clone, Copy)]
 pub enum Outcome {
     Unread { number: u8, at: usize },
     Unfused { number: u8 },

@@ -3,6 +3,8 @@
 //
 // What takes a shift stands twice: here for every shift, an invalid one being refused, and in `valid` for shifts that the caller knows to
 // be valid.
+#![tactic(auto)]
+
 ghost use Rattle.std.specs.Prelude.{◌≡◌, ◌&&◌, [], ◌∷◌, ◌<◌, ◌%◌, eqb};
 ghost use Rattle.word.specs.Answers.{checked, told};
 ghost use Rattle.shift.specs.Shifts.{variant_number, variant_at, width_of, cyclic_of, row_of, valid, apply_of, number_of, valid_number, shift_at};
@@ -13,7 +15,7 @@ use word::Shifted;
 
 pub mod valid;
 
-#[derive(Drop)]
+#[derive(Clone, Copy)]
 pub enum ShiftVariant {
     Sll,
     Slr,
@@ -26,34 +28,34 @@ pub enum ShiftVariant {
 }
 
 // A shift that exists need not be valid: whoever is handed one looks.
-#[derive(Drop)]
+#[derive(Clone, Copy)]
 pub struct Shift {
     pub variant: ShiftVariant,
     pub amount: u8,
 }
 
-#[derive(Drop)]
+#[derive(Clone, Copy)]
 pub struct Row {
     pub width: u8,
     pub cyclic: bool,
 }
 
 // A shift's number, or 4.
-#[derive(Drop)]
+#[derive(Clone, Copy)]
 pub enum Numbered {
     Number(u64),
     Refused,
 }
 
 // A number's shift, or 4.
-#[derive(Drop)]
+#[derive(Clone, Copy)]
 pub enum Found {
     Valid(Shift),
     Refused,
 }
 
 // What two shifts come to, one after the other.
-#[derive(Drop)]
+#[derive(Clone, Copy)]
 pub enum Composition {
     Single(Shift),
     Zero,
@@ -61,14 +63,14 @@ pub enum Composition {
 }
 
 // The same, or 4.
-#[derive(Drop)]
+#[derive(Clone, Copy)]
 pub enum Composed {
     Is(Composition),
     Refused,
 }
 
 // What makes two shifts one: the inner or the outer absorbs the other, or they chain and go on as a variant.
-#[derive(Drop)]
+#[derive(Clone, Copy)]
 pub enum Makes {
     Inner,
     Outer,

@@ -1,4 +1,6 @@
 // The texts that the programs print, put into lent bytes.
+#![tactic(auto)]
+
 ghost use Rattle.std.specs.Prelude.{◌≡◌, ◌+◌, ◌^◌, ◌≤◌, ◌<◌, length, set};
 ghost use Rattle.text.specs.Decimal.{decimal};
 ghost use Rattle.text.specs.Text.{refused_text, refused_at_text, value_text, values_text, ok_text, lines_text, PutsAt, Puts, Enough};

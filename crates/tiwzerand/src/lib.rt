@@ -1,5 +1,7 @@
 // The library for C and Rust. A slice is a pointer and a length; each function returns 0, or the refusal's number, and lays an answer's
 // values in a lent slice. Nothing is asked of the numbers handed in.
+#![tactic(auto)]
+
 ghost use Rattle.std.specs.Prelude.{◌≡◌, []};
 ghost use Rattle.lower.specs.Stores.{stores};
 ghost use Rattle.fusion.specs.Left.{lent};

@@ -1,1 +1,2 @@
 // That removing is undone by recomputing: definitions and theorems only.
+#![tactic(auto)]

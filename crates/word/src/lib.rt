@@ -2,6 +2,8 @@
 //
 // Each shift stands twice: here for every amount, refused where it is not below the width, and in `valid` for an amount that the caller
 // knows to be below it.
+#![tactic(auto)]
+
 ghost use Rattle.std.specs.Prelude.{◌≡◌};
 ghost use Rattle.std.specs.Int.Bits.{bit_xor};
 ghost use Rattle.word.specs.Word.{left, right, arith_right, turn, halves};
@@ -10,7 +12,7 @@ ghost use Rattle.word.specs.Answers.{Answers};
 pub mod valid;
 
 // A shifted word, or 4: the amount is not below the width.
-#[derive(Drop)]
+#[derive(Clone, Copy)]
 pub enum Shifted {
     Word(u64),
     Refused,

@@ -1,0 +1,7 @@
+-- The low byte, then the high one. Assumes nothing.
+use mathlib.Core.Path.{◌∙◌}
+use native.Mathlib.Numerals.{add-one}
+use Rattle.house_write.proofs.emit.put16.Goals as goal
+
+pub returns : goal.returns
+returns c = c.put8-2.ensures ∙ rw (c.put8.ensures, add-one)

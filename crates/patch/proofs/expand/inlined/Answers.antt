@@ -1,0 +1,13 @@
+-- What the table has, unless it is committed. Assumes nothing.
+use mathlib.Core.Path.{sym, ap, ◌∙◌}
+use Rattle.legraph.specs.Tables.{told_node}
+use Rattle.patch.proofs.expand.inlined.Goals as goal
+
+pub returns-in_default : goal.returns-in_default
+returns-in_default c = rw (sym c.node_of-node.ensures ∙ ap told_node c.in_default.is)
+
+pub returns-then-is_committed : goal.returns-then-is_committed
+returns-then-is_committed c = rw (sym c.node_of-node.ensures ∙ ap told_node c.in-LinDef.is, sym c.is_committed.ensures ∙ c.if-is_committed.true)
+
+pub returns : goal.returns
+returns c = rw (sym c.node_of-node.ensures ∙ ap told_node c.in-LinDef.is, sym c.is_committed.ensures ∙ c.if-is_committed.false)

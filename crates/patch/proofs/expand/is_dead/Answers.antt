@@ -1,0 +1,9 @@
+-- The test of the definition's mask. Assumes nothing.
+use lib.Bits.{bit_and}
+use lib.Dec.{eqb}
+use Prim.Native.Nat.{ℕ}
+use mathlib.Core.Path.{ap}
+use Rattle.patch.proofs.expand.is_dead.Goals as goal
+
+pub returns : goal.returns
+returns c = ap (λ (x : ℕ). eqb (bit_and x c.args.mask) 0) c.mask_of.ensures

@@ -1,0 +1,17 @@
+-- One wire after the other. Assumes nothing.
+use Rattle.text.proofs.Putting.{lines_first, lines_step, lines_all}
+use native.Mathlib.Omega.{arith}
+use Prim.Native.Nat.{◌-◌}
+use Rattle.text.proofs.put_lines.Goals as goal
+
+pub loop-i-init : goal.loop-i-init
+loop-i-init c = (lines_first (omega arith), omega arith, omega arith, omega arith)
+
+pub put_flag-p-requires : goal.put_flag-p-requires
+put_flag-p-requires c = omega (arith, c.loop-i.invariant, c.requires)
+
+pub loop-i-preserved : goal.loop-i-preserved
+loop-i-preserved c = (lines_step _ _ c.loop-i-test.true c.loop-i.invariant.0 c.put_flag-p.ensures.puts_at, omega (arith, c.loop-i-test.true), omega (arith, c.loop-i.invariant, c.put_flag-p.ensures.upper_bound), omega (arith, c.loop-i.invariant, c.put_flag-p.auto))
+
+pub returns : goal.returns
+returns c = record { puts_at = lines_all _ _ c.loop-i-test.false c.loop-i.invariant.0; upper_bound = omega (arith, c.loop-i.invariant, c.requires) }
