@@ -27,16 +27,16 @@ pub returns-then-not-lengths_right : goal.returns-then-not-lengths_right
 returns-then-not-lengths_right c = 
     let st : Stores = stores c.before.args.old.now c.before.args.new.now c.before.args.ands.now c.before.args.imuls.now c.before.args.bmuls.now c.before.args.zeros.now c.before.args.dsts.now c.before.args.rhss.now in
     let r = outcome c.before.args.z st c.before.requires _ c.walk.result _ c.add-lin-defs.ensures c.walk.ensures.0 c.walk.ensures.1.0 c.walk.ensures.1.1 in
-    sized c.before.requires (r.none c.if1.false) (sym c.lengths_right.ensures ∙ not-true _ c.if-not-lengths_right.true) refl
+    sized c.before.requires (r.none c.if1.false) (sym c.lengths_right.ensures ∙ c.if-not-lengths_right.true) refl
 
 pub fill_from-requires : goal.fill_from-requires
 fill_from-requires c = 
     let st : Stores = stores c.before.args.old.now c.before.args.new.now c.before.args.ands.now c.before.args.imuls.now c.before.args.bmuls.now c.before.args.zeros.now c.before.args.dsts.now c.before.args.rhss.now in
     let r = outcome c.before.args.z st c.before.requires _ c.walk.result _ c.add-lin-defs.ensures c.walk.ensures.0 c.walk.ensures.1.0 c.walk.ensures.1.1 in
-    record { all = all_able c.before.args.z st c.before.requires c.before.args.flags.now c.before.args.assignment.now (sym c.lengths_right.ensures ∙ not-false _ c.if-not-lengths_right.false) _ _ r c.if1.false; left_in_bounds = r.within c.if1.false }
+    record { all = all_able c.before.args.z st c.before.requires c.before.args.flags.now c.before.args.assignment.now (sym c.lengths_right.ensures ∙ c.if-not-lengths_right.false) _ _ r c.if1.false; left_in_bounds = r.within c.if1.false }
 
 pub returns : goal.returns
 returns c = 
     let st : Stores = stores c.before.args.old.now c.before.args.new.now c.before.args.ands.now c.before.args.imuls.now c.before.args.bmuls.now c.before.args.zeros.now c.before.args.dsts.now c.before.args.rhss.now in
     let r = outcome c.before.args.z st c.before.requires _ c.walk.result _ c.add-lin-defs.ensures c.walk.ensures.0 c.walk.ensures.1.0 c.walk.ensures.1.1 in
-    filled_answer c.before.args.z st c.before.requires c.before.args.flags.now c.before.args.assignment.now (sym c.lengths_right.ensures ∙ not-false _ c.if-not-lengths_right.false) _ _ r c.if1.false _ c.fill_from.ensures
+    filled_answer c.before.args.z st c.before.requires c.before.args.flags.now c.before.args.assignment.now (sym c.lengths_right.ensures ∙ c.if-not-lengths_right.false) _ _ r c.if1.false _ c.fill_from.ensures

@@ -21,14 +21,14 @@ returns-then-t-lt65536 c =
 pub returns-then-not-is_shift : goal.returns-then-not-is_shift
 unfolding term_fault
 returns-then-not-is_shift c = 
-    rw (lt-ltb (c.args.t % 65536) c.args.wires (omega (arith, c.wire-wire.ensures)), ap valid_number (sym c.inner.ensures) ∙ sym c.is_shift.ensures ∙ not-true _ c.if-not-is_shift.true)
+    rw (lt-ltb (c.args.t % 65536) c.args.wires (omega (arith, c.wire-wire.ensures)), ap valid_number (sym c.inner.ensures) ∙ sym c.is_shift.ensures ∙ c.if-not-is_shift.true)
 
 pub returns-then-not-is_shift-2 : goal.returns-then-not-is_shift-2
 unfolding term_fault
 returns-then-not-is_shift-2 c = 
-    rw (lt-ltb (c.args.t % 65536) c.args.wires (omega (arith, c.wire-wire.ensures)), ap valid_number (sym c.inner.ensures) ∙ sym c.is_shift.ensures ∙ not-false _ c.if-not-is_shift.false, ap valid_number (sym c.outer.ensures) ∙ sym c.is_shift-2.ensures ∙ not-true _ c.if-not-is_shift-2.true)
+    rw (lt-ltb (c.args.t % 65536) c.args.wires (omega (arith, c.wire-wire.ensures)), ap valid_number (sym c.inner.ensures) ∙ sym c.is_shift.ensures ∙ c.if-not-is_shift.false, ap valid_number (sym c.outer.ensures) ∙ sym c.is_shift-2.ensures ∙ c.if-not-is_shift-2.true)
 
 pub returns : goal.returns
 unfolding term_fault
 returns c = 
-    rw (lt-ltb (c.args.t % 65536) c.args.wires (omega (arith, c.wire-wire.ensures)), ap valid_number (sym c.inner.ensures) ∙ sym c.is_shift.ensures ∙ not-false _ c.if-not-is_shift.false, ap valid_number (sym c.outer.ensures) ∙ sym c.is_shift-2.ensures ∙ not-false _ c.if-not-is_shift-2.false)
+    rw (lt-ltb (c.args.t % 65536) c.args.wires (omega (arith, c.wire-wire.ensures)), ap valid_number (sym c.inner.ensures) ∙ sym c.is_shift.ensures ∙ c.if-not-is_shift.false, ap valid_number (sym c.outer.ensures) ∙ sym c.is_shift-2.ensures ∙ c.if-not-is_shift-2.false)

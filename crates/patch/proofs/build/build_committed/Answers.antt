@@ -20,7 +20,7 @@ returns-in_default c = let q : Source = source c.args.old.now c.args.new.now c.a
 
 pub returns-then-not-is_committed : goal.returns-then-not-is_committed
 returns-then-not-is_committed c = let q : Source = source c.args.old.now c.args.new.now c.args.rhss.now c.args.table.now c.args.decisions.now c.args.alive.now in let go : Term → Written → Written = spell q c.args.below in let z : Built = built_by c.args.out.now c.args.list.now c.args.b in
-    (sym (ap (λ (os : List Operand). build_all go os z) (node_passed q (get_or c.args.table.now c.args.wire.0 0) _ (sym c.node_of-node.ensures ∙ ap told_node c.in-LinDef.is) (sym c.is_committed.ensures ∙ not-true _ c.if-not-is_committed.true)) ∙ build_none go z), c.requires.commits_there.1.0)
+    (sym (ap (λ (os : List Operand). build_all go os z) (node_passed q (get_or c.args.table.now c.args.wire.0 0) _ (sym c.node_of-node.ensures ∙ ap told_node c.in-LinDef.is) (sym c.is_committed.ensures ∙ c.if-not-is_committed.true)) ∙ build_none go z), c.requires.commits_there.1.0)
 
 pub slice_bounds-build_row-start : goal.slice_bounds-build_row-start
 slice_bounds-build_row-start c = omega (arith, (c.requires.ready.0 c.args.wire.0 _ (sym c.node_of-node.ensures ∙ ap told_node c.in-LinDef.is)).right_side)
@@ -36,6 +36,6 @@ pub returns : goal.returns
 returns c = let q : Source = source c.args.old.now c.args.new.now c.args.rhss.now c.args.table.now c.args.decisions.now c.args.alive.now in let go : Term → Written → Written = spell q c.args.below in let z : Built = built_by c.args.out.now c.args.list.now c.args.b in let d : ℕ = c.in-LinDef.d.0 in let e = sym c.node_of-node.ensures ∙ ap told_node c.in-LinDef.is in (
   c.build_row.ensures.0
       ∙ ap (λ (hs : List ℕ). build_all go (map (operand_of c.args.old.now c.args.new.now) hs) z) (row_single c.args.rhss.now d (c.requires.ready.0 c.args.wire.0 d e).right_side)
-      ∙ sym (ap (λ (os : List Operand). build_all go os z) (node_taken q (get_or c.args.table.now c.args.wire.0 0) d e (sym c.is_committed.ensures ∙ not-false _ c.if-not-is_committed.false))),
+      ∙ sym (ap (λ (os : List Operand). build_all go os z) (node_taken q (get_or c.args.table.now c.args.wire.0 0) d e (sym c.is_committed.ensures ∙ c.if-not-is_committed.false))),
   c.build_row.ensures.1,
 )

@@ -17,11 +17,11 @@ row_names-requires c = all_imp {P = Rooted c.args.old.now c.args.new.now} {Q = S
 
 pub returns-then-not-row_names : goal.returns-then-not-row_names
 returns-then-not-row_names c = let q : Source = source c.args.old.now c.args.new.now c.args.rhss.now c.args.table.now c.args.decisions.now c.args.alive.now in let go : Term → Written → Written = spell q c.args.below in let f : ℕ → Operand = operand_of c.args.old.now c.args.new.now in let z : Built = built_by c.args.out.now c.args.list.now c.args.b in
-    (sym (ap (λ (os : List Operand). build_all go os z) (row_passed q (map f c.args.row.now) (sym c.row_names.ensures ∙ not-true _ c.if-not-row_names.true)) ∙ build_none go z), c.requires.all.1.0)
+    (sym (ap (λ (os : List Operand). build_all go os z) (row_passed q (map f c.args.row.now) (sym c.row_names.ensures ∙ c.if-not-row_names.true)) ∙ build_none go z), c.requires.all.1.0)
 
 pub build_row-requires : goal.build_row-requires
 build_row-requires c = record { ready = c.requires.ready; all = c.requires.all }
 
 pub returns : goal.returns
 returns c = let q : Source = source c.args.old.now c.args.new.now c.args.rhss.now c.args.table.now c.args.decisions.now c.args.alive.now in let go : Term → Written → Written = spell q c.args.below in let f : ℕ → Operand = operand_of c.args.old.now c.args.new.now in let z : Built = built_by c.args.out.now c.args.list.now c.args.b in
-    (c.build_row.ensures.0 ∙ sym (ap (λ (os : List Operand). build_all go os z) (row-taken q (map f c.args.row.now) (sym c.row_names.ensures ∙ not-false _ c.if-not-row_names.false))), c.build_row.ensures.1)
+    (c.build_row.ensures.0 ∙ sym (ap (λ (os : List Operand). build_all go os z) (row-taken q (map f c.args.row.now) (sym c.row_names.ensures ∙ c.if-not-row_names.false))), c.build_row.ensures.1)
