@@ -1,7 +1,7 @@
 -- Folding a shift into a sequence of two keeps the meaning, and leaves a canonical spelling. Assumes nothing.
 use mathlib.Core.Path.{◌≡◌, refl, sym, ap, ◌∙◌, subst}
 use mathlib.Core.Bool.{Bool, true, false, cond, ◌&&◌}
-use Prim.Native.Nat.{ℕ, ◌<◌, ◌≤◌, ◌^◌}
+use Prim.Native.Nat.{ℕ, ◌<◌, ◌^◌}
 use native.Mathlib.Decide.{ℕ_discrete}
 use native.Mathlib.Omega.{arith}
 use lib.Dec.{leb, eqb, lit<}
@@ -13,9 +13,8 @@ use Rattle.shift.specs.Shifts.{Valid, identity, apply_of}
 use Rattle.shift.specs.Compose.{compose_valid, Right}
 use Rattle.shift.proofs.Linear.{still, shifted_lt, zero-shifted}
 use Rattle.shift.proofs.Composes.{on_cond, compose_right}
-use Rattle.operand.specs.declared.PushInner.{PushInner}
-use Rattle.operand.specs.declared.PushInner.TheVariants.{Seq, Zero, OverBudget}
-use Rattle.operand.specs.Push.{lone_of, second_fold, first_fold, keep_both, push_valid, PushRight, Spelt, unshifted, singly, doubly}
+use Rattle.operand.specs.declared.PushInner.TheVariants.{Seq}
+use Rattle.operand.specs.Push.{lone_of, second_fold, first_fold, push_valid, PushRight, Spelt, unshifted, singly, doubly}
 
 and_second : (a b : Bool) → (a && b) ≡ true → b ≡ true
 and_second true b e = e

@@ -10,7 +10,7 @@
 --   Canonical a b        the spellings that a push leaves; Spelt p, that the answer p has one of them
 --
 -- Assumes nothing.
-use Rattle.std.specs.Prelude.{ℕ, ◌<◌, ◌^◌, ◌≡◌, Bool, cond, ◌&&◌, List, [], ◌∷◌, leb, eqb}
+use Rattle.std.specs.Prelude.{ℕ, ◌<◌, ◌^◌, ◌≡◌, cond, ◌&&◌, List, [], ◌∷◌, leb, eqb}
 use Rattle.word.specs.Answers.{Told, given, refused, SHIFT}
 use Rattle.shift.specs.declared.Shift.{Shift}
 use Rattle.shift.specs.declared.Composition.{Composition}

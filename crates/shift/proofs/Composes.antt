@@ -1,13 +1,13 @@
 -- The composition of two valid shifts is right. A rule's test is computed at each amount of each shift, on seven words, and not at each
 -- pair of amounts: a chain goes on by one step of the outer shift. Assumes nothing.
-use mathlib.Core.Path.{◌≡◌, refl, sym, ap, ap₂, ◌∙◌, subst, subst₂}
+use mathlib.Core.Path.{◌≡◌, refl, sym, ap, ◌∙◌, subst, subst₂}
 use mathlib.Core.Bool.{Bool, true, false, cond, ◌&&◌, ◌||◌}
 use mathlib.Core.List.{List, [], ◌∷◌}
-use Prim.Native.Nat.{ℕ, zero, suc, ◌+◌, ◌-◌, ◌*◌, ◌/◌, ◌%◌, ◌^◌, ◌≤◌, ◌<◌}
+use Prim.Native.Nat.{ℕ, suc, ◌+◌, ◌-◌, ◌^◌, ◌≤◌, ◌<◌}
 use native.Mathlib.Nat.{add-suc}
 use native.Mathlib.Omega.{arith}
 use native.Mathlib.Decide.{le_ind}
-use lib.Dec.{T, ltb, eqb, eqb→eq, leb, leb→le, ltb→lt, lt→ltb}
+use lib.Dec.{T, ltb, eqb, leb, leb→le, ltb→lt, lt→ltb}
 use borrow.Author.Tests.{le-ltb, eqb-true, eqb-false}
 use Rattle.word.specs.Word.{signed, floor_div, unsigned, arith_right, turn, halves}
 use Rattle.word.proofs.Moves.{Moves, after, none_moves}

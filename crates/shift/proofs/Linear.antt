@@ -4,7 +4,7 @@ use Prim.Native.Nat.{ℕ, ◌^◌, ◌<◌}
 use native.Mathlib.Omega.{arith}
 use lib.Dec.{T}
 use lib.Bits.{bit_xor}
-use Rattle.word.specs.Word.{left, right, signed, floor_div, unsigned, arith_right, turn, halves}
+use Rattle.word.specs.Word.{signed, floor_div, unsigned, arith_right, turn, halves}
 use Rattle.word.proofs.Moves.{Moves, left_moves, right_moves, arith_moves, turn_moves, halves_moves, same_moves}
 use Rattle.word.proofs.Probes.{agree, same, xor_through, zero-through}
 use Rattle.shift.specs.declared.ShiftVariant.{ShiftVariant}

@@ -12,7 +12,7 @@ use Rattle.shift.specs.declared.Shift.{Shift}
 use Rattle.shift.specs.declared.Makes.{Makes}
 use Rattle.shift.specs.declared.Makes.TheVariants.{Neither}
 use Rattle.shift.specs.Shifts.{variant_number}
-use Rattle.shift.specs.Compose.{Rule, same, fits, first_of}
+use Rattle.shift.specs.Compose.{Rule, first_of}
 use Rattle.shift.proofs.Variants.{number_lt}
 
 pub and-true : (b : Bool) → (b && true) ≡ b

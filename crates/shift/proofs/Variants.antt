@@ -1,10 +1,10 @@
 -- The eight variants: each is the one of its number, and its row of the table is that of the match. Assumes nothing.
 use mathlib.Core.Path.{◌≡◌, refl, sym, ap, ◌∙◌}
-use mathlib.Core.Bool.{Bool, true, false, cond}
+use mathlib.Core.Bool.{Bool, true, false}
 use mathlib.Core.List.{List, [], ◌∷◌}
 use Prim.Native.Nat.{ℕ, ◌<◌}
 use native.Mathlib.Omega.{arith}
-use lib.Dec.{eqb, lit<}
+use lib.Dec.{lit<}
 use lib.ListN.{get_or}
 use borrow.Author.Tests.{eqb-true}
 use Rattle.shift.specs.declared.ShiftVariant.{ShiftVariant}

@@ -12,7 +12,7 @@
 --   apply_of s w       the word w shifted by s
 --
 -- Assumes nothing.
-use Rattle.std.specs.Prelude.{ℕ, ◌+◌, ◌*◌, ◌/◌, ◌%◌, ◌<◌, Bool, true, false, ◌&&◌, List, [], ◌∷◌, ltb, get_or}
+use Rattle.std.specs.Prelude.{ℕ, ◌+◌, ◌*◌, ◌/◌, ◌%◌, ◌<◌, Bool, true, false, ◌&&◌, [], ◌∷◌, ltb, get_or}
 use Rattle.word.specs.Word.{left, right, arith_right, turn, halves}
 use Rattle.shift.specs.declared.ShiftVariant.{ShiftVariant}
 use Rattle.shift.specs.declared.ShiftVariant.TheVariants.{Sll, Slr, Sar, Rotr, Sll32, Srl32, Sra32, Rotr32}

@@ -1,11 +1,11 @@
 -- The bits of a number: of a quotient, a remainder, a multiple, a sum, a complement and an xor, and that its bits make it.
 -- Assumes nothing.
-use mathlib.Core.Path.{◌≡◌, refl, sym, ap, ap₂, ◌∙◌, subst}
+use mathlib.Core.Path.{◌≡◌, sym, ap, ◌∙◌}
 use Prim.Native.Nat.{ℕ, zero, suc, ◌+◌, ◌-◌, ◌*◌, ◌/◌, ◌%◌, ◌^◌, ◌≤◌, ◌<◌}
-use native.Mathlib.Nat.{div-eq_of_lt, lt_of_lt_of_le, mod-lt, le_of_suc-le-suc, div-one, add_comm, pow-zero}
+use native.Mathlib.Nat.{div-eq_of_lt, lt_of_lt_of_le, div-one}
 use native.Mathlib.Numerals.{one-add}
 use native.Mathlib.Omega.{arith}
-use lib.Pow.{pow_mono, pow_pos, shr-shr, shl-shr, field, mod-mod-pow, high, low, shr_lt}
+use lib.Pow.{pow_mono, pow_pos, shr-shr, field, mod-mod-pow, high, low}
 use lib.Arith.{lt-one}
 use lib.Bits.{bit_xor, xor_shr, xor_mod}
 
@@ -56,6 +56,7 @@ bit_xor_lem a b i = ap (λ (x : ℕ). x % 2) (xor_shr a b i) ∙ xor_mod (a / 2 
 
 -- the complement of a number of k bits
 pub bit_not : (k w i : ℕ) → w < 2 ^ k → i < k → bit (2 ^ k - 1 - w) i ≡ 1 - bit w i
+bit_not zero w i h l = elim l [ ]
 bit_not (suc k) w zero h l = bit_zero (2 ^ suc k - 1 - w) ∙ omega (arith, bit_zero w, pow_pos k)
 bit_not (suc k) w (suc i) h l =
     bit_suc (2 ^ suc k - 1 - w) i

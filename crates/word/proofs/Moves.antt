@@ -1,17 +1,17 @@
 -- Each shift moves bits: bit i of the shifted word is the bit of the word at the place `s i`, or 0 where that is past the word.
 -- Assumes nothing.
-use mathlib.Core.Path.{◌≡◌, refl, sym, ap, ap₂, ◌∙◌, subst}
-use mathlib.Core.Bool.{Bool, true, false, cond}
-use Prim.Native.Nat.{ℕ, zero, suc, ◌+◌, ◌-◌, ◌*◌, ◌/◌, ◌%◌, ◌^◌, ◌≤◌, ◌<◌, min}
-use native.Mathlib.Nat.{mod-lt, lt_of_le_of_lt, div-le_self, add-zero, zero-add, zero-div, mod-eq_of_lt, mod-eq-sub-mod, min-eq_left, min-eq_right, add-sub_of_le, two-pow-succ}
+use mathlib.Core.Path.{◌≡◌, refl, sym, ap, ◌∙◌, subst}
+use mathlib.Core.Bool.{cond}
+use Prim.Native.Nat.{ℕ, suc, ◌+◌, ◌-◌, ◌*◌, ◌/◌, ◌%◌, ◌^◌, ◌≤◌, ◌<◌, min}
+use native.Mathlib.Nat.{mod-lt, lt_of_le_of_lt, div-le_self, add-zero, zero-add, zero-div, mod-eq_of_lt, mod-eq-sub-mod, add-sub_of_le, two-pow-succ}
 use native.Mathlib.Omega.{arith}
 use native.Mathlib.Decide.{dec_lt}
 use lib.Dec.{ltb}
-use lib.Pow.{pow-add, pow_pos, shr_lt, shl_lt, shr-shr, pow-lt, ones_sub-lt}
-use lib.Arith.{digits_lt, sub-sub_self}
+use lib.Pow.{pow-add, pow_pos, shr_lt, ones_sub-lt}
+use lib.Arith.{digits_lt}
 use borrow.Author.Tests.{lt-ltb, le-ltb}
 use Rattle.word.specs.Word.{left, right, signed, floor_div, unsigned, arith_right, turn, halves}
-use Rattle.word.proofs.Bits.{bit, bit_suc, bit_zero, bit_lt, ext, bit_shr, bit_none, bit_mod, bit_low, bit_high, bit_not}
+use Rattle.word.proofs.Bits.{bit, bit_lt, bit_shr, bit_none, bit_mod, bit_low, bit_high, bit_not}
 
 -- f is a map of numbers of k bits that puts the bit at `place i` to i
 pub record Moves (k : ℕ) (f : ℕ → ℕ) : Type 0 where

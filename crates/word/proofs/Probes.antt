@@ -1,10 +1,9 @@
 -- Two maps that move bits are equal if they agree on seven words: bit i of the first six is a digit of i, so that what a map makes of
 -- them says where each bit comes from, and the seventh is all ones, which says whether it comes from anywhere. Assumes nothing.
-use mathlib.Core.Path.{◌≡◌, refl, sym, ap, ap₂, ◌∙◌, subst}
-use mathlib.Core.Bool.{Bool, true, false, cond, ◌&&◌}
-use Prim.Native.Nat.{ℕ, zero, suc, ◌+◌, ◌-◌, ◌*◌, ◌/◌, ◌%◌, ◌^◌, ◌≤◌, ◌<◌, min}
+use mathlib.Core.Path.{◌≡◌, sym, ap, ap₂, ◌∙◌, subst}
+use mathlib.Core.Bool.{Bool, true, false, ◌&&◌}
+use Prim.Native.Nat.{ℕ, zero, suc, ◌+◌, ◌%◌, ◌^◌, ◌<◌}
 use native.Mathlib.Nat.{le_of_suc-le-suc, zero-div}
-use native.Mathlib.Decide.{dec_lt, ℕ_discrete}
 use native.Mathlib.Omega.{arith}
 use lib.Dec.{T, ltb, eqb, eqb→eq, lit<}
 use mathlib.Core.List.{List, [], ◌∷◌}
@@ -27,6 +26,7 @@ and_right true b t = t
 and_right false b t = absurd t
 
 pub below : (f : ℕ → Bool) (n : ℕ) → T (upto f n) → (i : ℕ) → i < n → T (f i)
+below f zero t i h = elim h [ ]
 below f (suc n) t i h = either i n
     (λ p. below f n (and_right (f n) (upto f n) t) i p)
     (λ p. let e : n ≡ i = omega arith in subst (λ (x : ℕ). T (f x)) e (and_left (f n) (upto f n) t))
@@ -37,6 +37,7 @@ every f [] = true
 every f (x ∷ xs) = f x && every f xs
 
 every_at : (f : ℕ → Bool) (xs : List ℕ) → T (every f xs) → (b : ℕ) → b < length xs → T (f (get_or xs b 0))
+every_at f [] t b h = elim h [ ]
 every_at f (x ∷ xs) t zero h = and_left (f x) (every f xs) t
 every_at f (x ∷ xs) t (suc b) h = every_at f xs (and_right (f x) (every f xs) t) b (le_of_suc-le-suc h)
 

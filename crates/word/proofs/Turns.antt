@@ -1,6 +1,6 @@
 -- A turn, as code makes it: the two parts by two shifts, joined by `|`; and two halves, joined again. Assumes nothing.
-use mathlib.Core.Path.{◌≡◌, refl, sym, ap, ap₂, ◌∙◌, subst}
-use Prim.Native.Nat.{ℕ, zero, suc, ◌+◌, ◌-◌, ◌*◌, ◌/◌, ◌%◌, ◌^◌, ◌≤◌, ◌<◌}
+use mathlib.Core.Path.{◌≡◌, sym, ap, ap₂, ◌∙◌, subst}
+use Prim.Native.Nat.{ℕ, ◌+◌, ◌-◌, ◌*◌, ◌/◌, ◌%◌, ◌^◌, ◌≤◌, ◌<◌}
 use native.Mathlib.Nat.{mul-mod_left, add-zero, mod-one, div-one, zero-mul, zero-add}
 use native.Mathlib.Omega.{arith}
 use lib.Pow.{mod-pow-add, shl-shr, shr_lt}

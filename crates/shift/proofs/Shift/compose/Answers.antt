@@ -1,6 +1,6 @@
 -- By the tests of validity. Assumes nothing.
 use mathlib.Core.Path.{sym, ap, ◌∙◌}
-use borrow.Author.Tests.{not-true, not-false, ltb-true}
+use borrow.Author.Tests.{ltb-true}
 use Rattle.word.specs.Answers.{given}
 use Rattle.shift.specs.declared.Composition.{Composition}
 use Rattle.shift.specs.declared.Composed.TheVariants.{Is}

@@ -2,6 +2,7 @@
 use mathlib.Core.Path.{sym, ◌∙◌}
 use borrow.Author.Tests.{le-leb}
 use Rattle.shift.specs.Compose.{chains}
+use borrow.Author.Rules.{rules}
 use Rattle.shift.proofs.Rules.{arm, no_arm, and-true}
 use Rattle.shift.proofs.valid.chained_apart.Goals as goal
 
@@ -47,4 +48,4 @@ returns-in-42 c = c.from-in-42.ensures ∙ sym (arm chains c.args.inner c.args.o
 
 pub returns-in_default : goal.returns-in_default
 unfolding chains
-returns-in_default c = sym (no_arm chains c.args.inner c.args.outer _ c.pair-p.ensures c.in_default-own.rest)
+returns-in_default c = sym (no_arm chains c.args.inner c.args.outer _ c.pair-p.ensures (search rules))

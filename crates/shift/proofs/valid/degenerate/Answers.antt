@@ -2,6 +2,7 @@
 use mathlib.Core.Path.{sym, ◌∙◌}
 use borrow.Author.Tests.{le-leb}
 use Rattle.shift.specs.Compose.{degenerates}
+use borrow.Author.Rules.{rules}
 use Rattle.shift.proofs.Rules.{arm, no_arm, and-true}
 use Rattle.shift.proofs.valid.degenerate.Goals as goal
 
@@ -31,4 +32,4 @@ returns-in-53 c = c.from-in-53.ensures ∙ sym (arm degenerates c.args.inner c.a
 
 pub returns-in_default : goal.returns-in_default
 unfolding degenerates
-returns-in_default c = sym (no_arm degenerates c.args.inner c.args.outer _ c.pair-p.ensures c.in_default-own.rest)
+returns-in_default c = sym (no_arm degenerates c.args.inner c.args.outer _ c.pair-p.ensures (search rules))
