@@ -6,7 +6,6 @@ use Rattle.operand.specs.declared.WireOperand.{WireOperand}
 use lib.Dec.{eqb}
 use lib.ListN.{take, get_or}
 use native.Mathlib.Omega.{arith}
-use Prim.Native.Nat.{◌-◌}
 use mathlib.Core.Bool.{true, false}
 use mathlib.Core.Path.{◌≡◌, sym, ap, ◌∙◌, refl}
 use Rattle.lower.proofs.definitions.has_empty.Goals as goal

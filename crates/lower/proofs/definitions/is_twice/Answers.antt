@@ -5,7 +5,7 @@ use Rattle.lower.specs.Tables.{marked}
 use borrow.Author.Tests.{ne_eqb, eq-eqb}
 use lib.ListN.{length, take, get_or, length-set, length-replicate}
 use native.Mathlib.Omega.{arith}
-use Prim.Native.Nat.{ℕ, ◌-◌, ◌<◌}
+use Prim.Native.Nat.{ℕ, ◌<◌}
 use mathlib.Core.Bool.{true, false}
 use mathlib.Core.Path.{◌≡◌, sym, ◌∙◌}
 use Rattle.lower.proofs.definitions.is_twice.Goals as goal

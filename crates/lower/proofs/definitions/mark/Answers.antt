@@ -3,7 +3,7 @@ use Rattle.lower.proofs.Somes.{marks_step}
 use Rattle.lower.proofs.Firsts.{part_step, part_end, part_all}
 use lib.ListN.{take, get_or, length-set}
 use native.Mathlib.Omega.{arith}
-use Prim.Native.Nat.{ℕ, ◌-◌}
+use Prim.Native.Nat.{ℕ}
 use mathlib.Core.Path.{sym, ◌∙◌, refl}
 use Rattle.lower.proofs.definitions.mark.Goals as goal
 

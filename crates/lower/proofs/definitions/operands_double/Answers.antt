@@ -3,7 +3,6 @@ use Rattle.lower.proofs.Somes.{some_stop, some_go}
 use Rattle.lower.proofs.Firsts.{part_step, part_end, part_all}
 use lib.ListN.{take, get_or}
 use native.Mathlib.Omega.{arith}
-use Prim.Native.Nat.{◌-◌}
 use mathlib.Core.Path.{sym, ◌∙◌, refl}
 use Rattle.lower.proofs.definitions.operands_double.Goals as goal
 

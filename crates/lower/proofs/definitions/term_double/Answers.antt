@@ -5,7 +5,7 @@ use borrow.Author.Tests.{ne_eqb, eq-eqb}
 use lib.Dec.{eqb}
 use lib.ListN.{length, get_or-eq_default}
 use native.Mathlib.Omega.{arith}
-use Prim.Native.Nat.{ℕ, ◌-◌, ◌≤◌, ◌%◌}
+use Prim.Native.Nat.{ℕ, ◌≤◌, ◌%◌}
 use mathlib.Core.Bool.{true, false}
 use mathlib.Core.Path.{◌≡◌, sym, ap, ◌∙◌}
 use Rattle.lower.proofs.definitions.term_double.Goals as goal

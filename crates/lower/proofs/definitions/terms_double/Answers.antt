@@ -5,7 +5,6 @@ use Rattle.lower.specs.Tables.{double_in}
 use Rattle.operand.specs.Numbers.{term_of}
 use lib.ListN.{get_or, drop_of_length-le}
 use native.Mathlib.Omega.{arith}
-use Prim.Native.Nat.{◌-◌}
 use mathlib.Core.Path.{sym, ◌∙◌}
 use Rattle.lower.proofs.definitions.terms_double.Goals as goal
 

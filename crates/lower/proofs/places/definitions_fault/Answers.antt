@@ -3,7 +3,6 @@ use Rattle.lower.proofs.Firsts.{pairs_dst, pairs_stop, pairs_go, part_end}
 use Rattle.lower.specs.Faults.{definitions_fault}
 use borrow.Author.Tests.{le-leb, lt-leb}
 use native.Mathlib.Omega.{arith}
-use Prim.Native.Nat.{◌-◌}
 use mathlib.Core.Path.{sym, ◌∙◌}
 use Rattle.lower.proofs.places.definitions_fault.Goals as goal
 

@@ -1,7 +1,7 @@
 -- Whether it lies in its store, then its terms. Assumes nothing.
 use Rattle.lower.specs.Faults.{operand_fault, first_fault, term_fault}
 use Rattle.operand.specs.Numbers.{operand_at, operand_of, within, term_of}
-use borrow.Author.Tests.{leb-true, not-true, not-false}
+use borrow.Author.Tests.{leb-true}
 use mathlib.Core.List.{map}
 use mathlib.Core.Bool.{true, false}
 use mathlib.Core.Path.{◌≡◌, sym, ap, ◌∙◌}

@@ -1,7 +1,6 @@
 -- The first fault of all operands is the first of those that are left. Assumes nothing.
 use Rattle.lower.proofs.Firsts.{first_stop, first_go, first_end}
 use native.Mathlib.Omega.{arith}
-use Prim.Native.Nat.{◌-◌}
 use mathlib.Core.Path.{sym, ◌∙◌, refl}
 use Rattle.lower.proofs.places.operands_fault.Goals as goal
 

@@ -1,7 +1,7 @@
 -- Wire, inner, outer. Assumes nothing.
 use Rattle.lower.specs.Faults.{term_fault}
 use Rattle.shift.specs.Shifts.{valid_number}
-use borrow.Author.Tests.{lt-ltb, le-ltb, not-true, not-false}
+use borrow.Author.Tests.{lt-ltb, le-ltb}
 use native.Mathlib.Omega.{arith}
 use Prim.Native.Nat.{◌/◌, ◌%◌}
 use mathlib.Core.Path.{◌≡◌, sym, ap, ◌∙◌}

@@ -3,7 +3,6 @@ use Rattle.lower.proofs.Firsts.{first_stop, first_go, first_end, first_map}
 use Rattle.lower.specs.Faults.{term_fault}
 use Rattle.operand.specs.Numbers.{term_of}
 use native.Mathlib.Omega.{arith}
-use Prim.Native.Nat.{◌-◌}
 use mathlib.Core.Path.{sym, ◌∙◌}
 use borrow.Author.Rules.{rules}
 use Rattle.lower.proofs.places.terms_fault.Goals as goal
