@@ -14,7 +14,7 @@ use Rattle.legraph.specs.Walked.{Walked, circled, enter, over, opened, closed, v
 
 -- a mark that is no 0 leaves no more unmarked
 pub marked : (xs : List ℕ) (i v : ℕ) → unmarked (set xs i (suc v)) ≤ unmarked xs
-unfolding unmarked set
+unfolding unmarked
 marked [] i v = omega arith
 marked (zero ∷ xs) zero v = omega arith
 marked (suc x ∷ xs) zero v = omega arith
@@ -23,7 +23,7 @@ marked (suc x ∷ xs) (suc i) v = marked xs i v
 
 -- a 0 that is marked is one less
 pub fewer : (xs : List ℕ) (i v : ℕ) → i < length xs → get_or xs i 0 ≡ 0 → unmarked (set xs i (suc v)) + 1 ≡ unmarked xs
-unfolding unmarked set
+unfolding unmarked
 fewer [] i v h e = absurd (omega arith)
 fewer (zero ∷ xs) zero v h e = omega arith
 fewer (suc x ∷ xs) zero v h e = absurd (omega arith)
@@ -32,7 +32,7 @@ fewer (suc x ∷ xs) (suc i) v h e = fewer xs i v (omega arith) e
 
 -- a mark that is no 0 can be changed
 pub remarked : (xs : List ℕ) (i v : ℕ) → (get_or xs i 0 ≡ 0 → ⊥) → unmarked (set xs i (suc v)) ≡ unmarked xs
-unfolding unmarked set
+unfolding unmarked
 remarked [] i v e = refl
 remarked (zero ∷ xs) zero v e = absurd (e refl)
 remarked (suc x ∷ xs) zero v e = refl

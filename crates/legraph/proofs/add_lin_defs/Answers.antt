@@ -12,12 +12,6 @@ pub loop-i-init : goal.loop-i-init
 unfolding numbered
 loop-i-init c = (omega arith, refl, sym (ap (λ (l : _). numbered c.args.n l c.args.table.now) (part_end c.args.dsts.now c.args.n c.args.n c.requires.0 (omega arith))))
 
-pub overflow_cast-d : goal.overflow_cast-d
-overflow_cast-d c = omega (arith, c.shared_slice_known-1.given (c.loop-i.i - 1))
-
-pub offset_bounds-table-d : goal.offset_bounds-table-d
-offset_bounds-table-d c = omega (arith, c.shared_slice_known-1.given (c.loop-i.i - 1))
-
 pub bounds-table-d : goal.bounds-table-d
 bounds-table-d c = omega (arith, part_all c.args.dsts.now c.args.n (c.loop-i.i - 1) 0 c.requires.2 (omega arith) c.requires.0, c.loop-i.invariant.1)
 

@@ -1,5 +1,5 @@
 use mathlib.Core.Path.{◌≡◌}
-use Prim.Native.Nat.{◌-◌, ◌≤◌}
+use Prim.Native.Nat.{◌≤◌}
 use lib.ListN.{length, take, drop}
 use Rattle.legraph.specs.Tables.{numbered}
 use Rattle.legraph.proofs.add_lin_defs.Given as goal

@@ -12,7 +12,7 @@ pub bounds-marks-d : goal.bounds-marks-d
 bounds-marks-d c = c.requires.there.0
 
 pub visit-requires : goal.visit-requires
-visit-requires c = (c.requires.sound, (c.requires.there, c.if-m-eq0.true))
+visit-requires c = record { sound = c.requires.sound; there = c.requires.there; d_value = c.if-m-eq0.true }
 
 pub returns-then-m-eq0 : goal.returns-then-m-eq0
 returns-then-m-eq0 c = record { by_index = λ f le. c.visit.ensures.by_index f le ∙ enter_new (visitOf f _ _) _ _ _ refl c.if-c.false c.if-m-eq0.true; marks_bound = c.visit.ensures.marks_bound }

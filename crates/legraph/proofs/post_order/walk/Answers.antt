@@ -19,15 +19,15 @@ start-cur-requires c = record { sound = subst (λ (n : ℕ). Sound c.args.old.no
 pub loop-k-preserved : goal.loop-k-preserved
 loop-k-preserved c = (
   omega (arith, c.loop-k-test.true),
-  c.start.auto.1.1.1.1.0 ∙ c.loop-k.invariant.1,
-  c.start.auto.1.1.1.1.1.0 ∙ c.loop-k.invariant.2,
-  omega (arith, c.start.ensures.1, c.loop-k.invariant.3),
+  c.start-cur.auto.marks ∙ c.loop-k.invariant.1,
+  c.start-cur.auto.order ∙ c.loop-k.invariant.2,
+  omega (arith, c.start-cur.ensures.marks_bound, c.loop-k.invariant.3),
   ap (walk_from (length c.args.marks.now) (rhs_in c.args.old.now c.args.new.now c.args.rhss.now) c.args.table.now (c.loop-k.k + 1) (c.args.count - (c.loop-k.k + 1)))
-      (c.start.ensures.0 (length c.args.marks.now) (omega (arith, c.loop-k.invariant.3, unmarked-length c.args.marks.now)))
+      (c.start-cur.ensures.by_index (length c.args.marks.now) (omega (arith, c.loop-k.invariant.3, unmarked-length c.args.marks.now)))
       ∙ sym (walk_step (length c.args.marks.now) (rhs_in c.args.old.now c.args.new.now c.args.rhss.now) c.args.table.now c.loop-k.k c.args.count (walked c.loop-k.marks c.loop-k.order c.loop-k.cur) c.loop-k-test.true) ∙ c.loop-k.invariant.4,
 )
 
 pub returns : goal.returns
 unfolding walk_of
-returns c = 
+returns c =
     sym (walk_end (length c.args.marks.now) (rhs_in c.args.old.now c.args.new.now c.args.rhss.now) c.args.table.now c.loop-k.k c.args.count (walked c.loop-k.marks c.loop-k.order c.loop-k.cur) c.loop-k-test.false) ∙ c.loop-k.invariant.4

@@ -8,4 +8,4 @@ pub returns-then-uses-n : goal.returns-then-uses-n
 returns-then-uses-n c = (push_full c.args.user c.args.shift c.args.d.0 (graph c.args.first.now c.args.uses.now c.args.n) c.if-uses-n.true, omega arith)
 
 pub returns : goal.returns
-returns c = (cc (push_room c.before.args.user c.before.args.shift c.before.args.d.0 c.before.args.first.now c.before.args.uses.now c.before.args.n c.if1.false, c.put.ensures, c.number.ensures, c.first_of-next.ensures), omega arith)
+returns c = (cc (push_room c.args.user c.args.shift c.args.d.0 c.args.first.now c.args.uses.now c.args.n c.if-uses-n.false, c.put.ensures, c.number.ensures, c.first_of-next.ensures), omega arith)

@@ -18,8 +18,8 @@ note_operand-k-requires c = (omega (arith, c.loop-i.invariant.2, c.loop-i.invari
 pub loop-i-preserved : goal.loop-i-preserved
 loop-i-preserved c = (
   omega arith,
-  c.note_operand-k.auto.1.1.1.1.0 ∙ c.loop-i.invariant.1,
-  c.note_operand-k.auto.1.1.1.1.1.0 ∙ c.loop-i.invariant.2,
+  c.note_operand-k.auto.first ∙ c.loop-i.invariant.1,
+  c.note_operand-k.auto.uses ∙ c.loop-i.invariant.2,
   omega (arith, c.note_operand-k.ensures.1, c.loop-i.invariant.2),
   c.note_operand-k.ensures.0 ∙ rw (c.user_at-user.ensures, c.loop-i.invariant.4) (sym (operands_back (operand_of c.args.old.now c.args.new.now) c.args.table.now c.args.linear c.args.hs.now c.args.count c.loop-i.i (graph c.args.first.now c.args.uses.now c.args.n) (omega arith) c.loop-i.invariant.0 c.requires.count_in_bounds.0)),
 )

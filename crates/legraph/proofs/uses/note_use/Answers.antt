@@ -9,7 +9,7 @@ use Rattle.legraph.proofs.Laws.{note_opaque, note_defined}
 use Rattle.legraph.proofs.uses.note_use.Goals as goal
 
 pub returns-in_default : goal.returns-in_default
-returns-in_default c = 
+returns-in_default c =
     let e : get_or c.args.table.now (term_of c.args.t).wire 0 ≡ 0 = ap (λ (w : ℕ). get_or c.args.table.now w 0) (sym c.wire.ensures) ∙ sym c.node_of-node.ensures ∙ ap told_node c.in_default.is in
     (note_opaque c.args.user (term_of c.args.t).inner _ (graph c.args.first.now c.args.uses.now c.args.n) e, omega arith)
 
