@@ -8,5 +8,5 @@ use Rattle.lower.proofs.definitions.operand_double.Goals as goal
 
 pub returns : goal.returns
 unfolding handle_double operand_of
-returns c = 
+returns c =
     c.terms_double.ensures ∙ ap (λ l. some_of (double_in c.args.defined.now c.args.definition) (map term_of l)) c.operand_terms.ensures

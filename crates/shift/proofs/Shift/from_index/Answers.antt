@@ -14,7 +14,7 @@ pub returns-then-index-ge512 : goal.returns-then-index-ge512
 returns-then-index-ge512 c = (rw (le-ltb _ 512 c.if-index-ge512.true), rw (le-ltb _ 512 c.if-index-ge512.true))
 
 pub returns-then-is_valid : goal.returns-then-is_valid
-returns-then-is_valid c = 
+returns-then-is_valid c =
     let e = sym c.is_valid.ensures ∙ c.if-is_valid.true in
     let v : valid_number c.args.index ≡ true = rw (lt-ltb c.args.index 512 c.if-index-ge512.false, ← c.from_u8.ensures, e) in
     (rw (lt-ltb c.args.index 512 c.if-index-ge512.false, ← c.from_u8.ensures, e), rw v (ap (λ (k : ℕ). given (k ∷ [])) (rw c.from_u8.ensures (number_there c.args.index v))))
