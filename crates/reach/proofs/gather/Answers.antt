@@ -12,10 +12,10 @@ pub loop-i-init : goal.loop-i-init
 loop-i-init c = (omega arith, record { long = refl; kept = refl }, record { gathered = λ d l. absurd (omega arith) })
 
 pub overflow_cast-w : goal.overflow_cast-w
-overflow_cast-w c = omega (arith, c.shared_slice_known-1.given c.loop-i.i)
+overflow_cast-w c = omega (arith, c.type_inv.dsts c.loop-i.i)
 
 pub offset_bounds-masks-w : goal.offset_bounds-masks-w
-offset_bounds-masks-w c = omega (arith, c.shared_slice_known-1.given c.loop-i.i)
+offset_bounds-masks-w c = omega (arith, c.type_inv.dsts c.loop-i.i)
 
 pub bounds-masks-w : goal.bounds-masks-w
 bounds-masks-w c = omega (arith, part_all c.args.dsts.now c.args.n c.loop-i.i 0 c.requires.2 c.loop-i-test.true c.requires.0)

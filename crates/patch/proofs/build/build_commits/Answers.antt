@@ -21,10 +21,10 @@ build_committed-cur-requires c = record { ready = c.requires.ready; commits_ther
 pub loop-w-preserved : goal.loop-w-preserved
 loop-w-preserved c = let q : Source = source c.args.old.now c.args.new.now c.args.rhss.now c.args.table.now c.args.decisions.now c.args.alive.now in let go : Term → Written → Written = spell q c.args.below in let y : Built = built_by c.loop-w.out c.loop-w.list c.loop-w.cur in (
   omega (arith, c.loop-w-test.true),
-  c.build_committed-cur.auto.1.1.1.1.1.1.0 ∙ c.loop-w.invariant.1,
+  omega arith,
   omega (arith, c.build_committed-cur.ensures.1, c.loop-w.invariant.1),
   ap (build_all go (commits_in q (c.loop-w.w + 1) (c.args.wires - (c.loop-w.w + 1)))) c.build_committed-cur.ensures.0 ∙ sym (commits_step go q c.loop-w.w c.args.wires y c.loop-w-test.true) ∙ c.loop-w.invariant.3,
-  c.build_committed-cur.auto.1.1.1.1.1.1.1.0 ∙ c.loop-w.invariant.4,
+  omega arith,
 )
 
 pub returns : goal.returns

@@ -1,5 +1,4 @@
 -- The three kinds of wires: not defined, defined and not committed, committed. Assumes nothing.
-use borrow.Author.Tests.{not-true, not-false}
 use Rattle.patch.proofs.Builds.{build_none, row_single, node_none, node_passed, node_taken}
 use Rattle.patch.specs.Building.{Built, built_by, build_all, Rooted}
 use Rattle.patch.specs.Spelling.{Source, source, spell}

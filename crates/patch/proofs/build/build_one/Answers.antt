@@ -13,7 +13,7 @@ returns-then-list-n c = let q : Source = source c.args.old.now c.args.new.now c.
     (build_full go (f c.args.h) z c.if-list-n.true, c.requires.rooted.1.0)
 
 pub process_operand-c-requires : goal.process_operand-c-requires
-process_operand-c-requires c = (c.requires.ready.0, (c.requires.ready.1, (c.requires.rooted.0, c.requires.rooted.1.0)))
+process_operand-c-requires c = record { readable = c.requires.ready.0; by_index = c.requires.ready.1; rooted = (c.requires.rooted.0, c.requires.rooted.1.0) }
 
 pub handle-requires : goal.handle-requires
 handle-requires c = let q : Source = source c.args.old.now c.args.new.now c.args.rhss.now c.args.table.now c.args.decisions.now c.args.alive.now in let go : Term → Written → Written = spell q c.args.below in let f : ℕ → Operand = operand_of c.args.old.now c.args.new.now in

@@ -1,5 +1,4 @@
 -- A row that names no defined wire has no operand to rebuild. Assumes nothing.
-use borrow.Author.Tests.{not-true, not-false}
 use Rattle.patch.proofs.Builds.{build_none, row_passed, row-taken}
 use Rattle.patch.specs.Building.{Built, built_by, build_all, Rooted}
 use Rattle.patch.specs.Spelling.{Source, source, spell}

@@ -11,19 +11,13 @@ use mathlib.Core.Path.{sym, ap, ◌∙◌}
 use Rattle.patch.proofs.build.build_root_patches.Goals as goal
 
 pub build_rows-second-requires : goal.build_rows-second-requires
-build_rows-second-requires c = record { ready = c.requires.buildable.ready; rows_there = (c.requires.buildable.imuls_there, (omega (arith, c.build_rows-first.ensures.1, c.build_rows-first.auto.1.1.1.1.1.1.1.1.1.0), omega (arith, c.build_rows-first.auto.1.1.1.1.1.1.1.1.1.0, c.requires.room.1))) }
+build_rows-second-requires c = record { ready = c.requires.buildable.ready; rows_there = (c.requires.buildable.imuls_there, (omega (arith, c.build_rows-first.ensures.1), omega (arith, c.requires.room.1))) }
 
 pub build_rows-third-requires : goal.build_rows-third-requires
-build_rows-third-requires c = record { ready = c.requires.buildable.ready; rows_there = (c.requires.buildable.bmuls_there, (omega (arith, c.build_rows-second.ensures.1, c.build_rows-second.auto.1.1.1.1.1.1.1.1.1.0, c.build_rows-first.auto.1.1.1.1.1.1.1.1.1.0), omega (arith, c.build_rows-second.auto.1.1.1.1.1.1.1.1.1.0, c.build_rows-first.auto.1.1.1.1.1.1.1.1.1.0, c.requires.room.1))) }
+build_rows-third-requires c = record { ready = c.requires.buildable.ready; rows_there = (c.requires.buildable.bmuls_there, (omega (arith, c.build_rows-second.ensures.1), omega (arith, c.requires.room.1))) }
 
 pub build_rows-requires : goal.build_rows-requires
-build_rows-requires c = record { ready = c.requires.buildable.ready; rows_there = (c.requires.buildable.zeros_there, (omega (arith, c.build_rows-third.ensures.1, c.build_rows-third.auto.1.1.1.1.1.1.1.1.1.0, c.build_rows-second.auto.1.1.1.1.1.1.1.1.1.0, c.build_rows-first.auto.1.1.1.1.1.1.1.1.1.0), omega (arith, c.build_rows-third.auto.1.1.1.1.1.1.1.1.1.0, c.build_rows-second.auto.1.1.1.1.1.1.1.1.1.0, c.build_rows-first.auto.1.1.1.1.1.1.1.1.1.0, c.requires.room.1))) }
-
-pub shape_of-out : goal.shape_of-out
-shape_of-out c = c.build_rows.auto.1.1.1.1.1.1.1.1.1.0 ∙ c.build_rows-third.auto.1.1.1.1.1.1.1.1.1.0 ∙ c.build_rows-second.auto.1.1.1.1.1.1.1.1.1.0 ∙ c.build_rows-first.auto.1.1.1.1.1.1.1.1.1.0
-
-pub shape_of-list : goal.shape_of-list
-shape_of-list c = c.build_rows.auto.1.1.1.1.1.1.1.1.1.1.0 ∙ c.build_rows-third.auto.1.1.1.1.1.1.1.1.1.1.0 ∙ c.build_rows-second.auto.1.1.1.1.1.1.1.1.1.1.0 ∙ c.build_rows-first.auto.1.1.1.1.1.1.1.1.1.1.0
+build_rows-requires c = record { ready = c.requires.buildable.ready; rows_there = (c.requires.buildable.zeros_there, (omega (arith, c.build_rows-third.ensures.1), omega (arith, c.requires.room.1))) }
 
 pub returns : goal.returns
 returns c = let q : Source = source c.args.old.now c.args.new.now c.args.rhss.now c.args.table.now c.args.decisions.now c.args.alive.now in let go : Term → Written → Written = spell q c.args.z.linears in
@@ -35,5 +29,5 @@ returns c = let q : Source = source c.args.old.now c.args.new.now c.args.rhss.no
           ∙ ap (λ (x : Built). build_all go o (build_all go m x)) c.build_rows-second.ensures.0
           ∙ ap (λ (x : Built). build_all go o (build_all go m (build_all go i x))) c.build_rows-first.ensures.0
           ∙ sym (roots_are go q c.args.z c.args.ands.now c.args.imuls.now c.args.bmuls.now c.args.zeros.now (built_by c.args.out.now c.args.list.now c.args.b)),
-      omega (arith, c.build_rows.ensures.1, c.build_rows-third.auto.1.1.1.1.1.1.1.1.1.0, c.build_rows-second.auto.1.1.1.1.1.1.1.1.1.0, c.build_rows-first.auto.1.1.1.1.1.1.1.1.1.0),
+      omega (arith, c.build_rows.ensures.1),
     )

@@ -22,10 +22,10 @@ build_one-cur-requires c =
 pub loop-k-preserved : goal.loop-k-preserved
 loop-k-preserved c = let q : Source = source c.args.old.now c.args.new.now c.args.rhss.now c.args.table.now c.args.decisions.now c.args.alive.now in let go : Term → Written → Written = spell q c.args.below in let f : ℕ → Operand = operand_of c.args.old.now c.args.new.now in let y : Built = built_by c.loop-k.out c.loop-k.list c.loop-k.cur in (
   omega (arith, c.loop-k-test.true),
-  c.build_one-cur.auto.1.1.1.1.1.1.0 ∙ c.loop-k.invariant.1,
+  omega arith,
   omega (arith, c.build_one-cur.ensures.1, c.loop-k.invariant.1),
   ap (build_all go (map f (drop (c.loop-k.k + 1) c.args.row.now))) c.build_one-cur.ensures.0 ∙ sym (row_step go f c.args.row.now c.loop-k.k y c.loop-k-test.true) ∙ c.loop-k.invariant.3,
-  c.build_one-cur.auto.1.1.1.1.1.1.1.0 ∙ c.loop-k.invariant.4,
+  omega arith,
 )
 
 pub returns : goal.returns

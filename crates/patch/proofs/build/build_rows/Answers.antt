@@ -25,12 +25,12 @@ build_root_patch-cur-requires c =
 
 pub loop-left-preserved : goal.loop-left-preserved
 loop-left-preserved c = let q : Source = source c.args.old.now c.args.new.now c.args.rhss.now c.args.table.now c.args.decisions.now c.args.alive.now in let go : Term → Written → Written = spell q c.args.below in let y : Built = built_by c.loop-left.out c.loop-left.list c.loop-left.cur in (
-  c.build_root_patch-cur.auto.1.1.1.1.1.1.1.0 ∙ c.loop-left.invariant.0,
+  omega arith,
   omega (arith, c.build_root_patch-cur.ensures.1, c.loop-left.invariant.0),
   rows_room c.args.k c.loop-left.left c.loop-left.i c.args.hs.now c.loop-left-test.true c.loop-left.invariant.2,
   rows_rest c.args.k c.loop-left.left c.loop-left.i c.args.hs.now c.loop-left-test.true (Rooted c.args.old.now c.args.new.now) c.loop-left.invariant.3,
   ap (build_all go (rows_in_lem q c.args.k (c.loop-left.left - 1) (drop (c.loop-left.i + c.args.k) c.args.hs.now))) c.build_root_patch-cur.ensures.0 ∙ sym (rows_step c.args.k c.loop-left.left c.loop-left.i c.args.hs.now c.loop-left-test.true go q y) ∙ c.loop-left.invariant.4,
-  c.build_root_patch-cur.auto.1.1.1.1.1.1.1.1.0 ∙ c.loop-left.invariant.5,
+  omega arith,
 )
 
 pub returns : goal.returns

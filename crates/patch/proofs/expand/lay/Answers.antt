@@ -26,13 +26,13 @@ pub from_index-requires : goal.from_index-requires
 from_index-requires c = subst (λ (n : ℕ). valid_number n ≡ true) (sym c.inner-s.ensures) c.requires.t_value
 
 pub apply-m-requires : goal.apply-m-requires
-apply-m-requires c = c.from-index.ensures.1
+apply-m-requires c = c.from_index.ensures.1
 
 pub returns : goal.returns
-returns c = let d : ℕ = c.node.given.0.0.0 in
-    let q : inlined_number c.before.args.decisions.now (get_or c.before.args.table.now (term_of c.before.args.t).wire 0) ≡ suc d = subst (λ (w : ℕ). inlined_number c.before.args.decisions.now (get_or c.before.args.table.now w 0) ≡ suc d) c.wire.ensures (sym c.inlined.ensures ∙ ap told_node c.node.given.1) in
-    let e : 4294967296 + 65536 * c.inner.result + d ≡ term_number (record { wire = d; inner = (term_of c.before.args.t).inner; outer = 1 }) = omega (arith, c.inner.ensures) in
-    ap₂ (λ (x y : ℕ). set (set c.before.args.alive.now c.before.args.at x) c.before.args.to y)
-    (c.apply-m.ensures ∙ ap₂ (λ (x : Shift) (y : ℕ). apply_of x y) (c.from-index.ensures.0 ∙ ap shift_at c.inner.ensures) c.mask_of.ensures
-    ∙ look-some c.before.args.table.now c.before.args.decisions.now c.before.args.alive.now (term_of c.before.args.t) d q)
-    (e ∙ laid-some c.before.args.table.now c.before.args.decisions.now c.before.args.t d q)
+returns c = let d : ℕ = c.in-LinDef.d.0 in
+    let q : inlined_number c.args.decisions.now (get_or c.args.table.now (term_of c.args.t).wire 0) ≡ suc d = subst (λ (w : ℕ). inlined_number c.args.decisions.now (get_or c.args.table.now w 0) ≡ suc d) c.wire-wire.ensures (sym c.inlined-node.ensures ∙ ap told_node c.in-LinDef.is) in
+    let e : 4294967296 + 65536 * c.inner-s.result + d ≡ term_number (record { wire = d; inner = (term_of c.args.t).inner; outer = 1 }) = omega (arith, c.inner-s.ensures) in
+    ap₂ (λ (x y : ℕ). set (set c.args.alive.now c.args.at x) c.args.to y)
+    (c.apply-m.ensures ∙ ap₂ (λ (x : Shift) (y : ℕ). apply_of x y) (c.from_index.ensures.0 ∙ ap shift_at c.inner-s.ensures) c.mask_of.ensures
+    ∙ look-some c.args.table.now c.args.decisions.now c.args.alive.now (term_of c.args.t) d q)
+    (e ∙ laid-some c.args.table.now c.args.decisions.now c.args.t d q)

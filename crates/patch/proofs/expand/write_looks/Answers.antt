@@ -13,7 +13,7 @@ bounds-rhss-d c = omega (arith, c.requires.lookable.right_sides, c.loop-d-test.t
 
 pub look_operand-m-requires : goal.look_operand-m-requires
 look_operand-m-requires c = 
-    (c.requires.lookable.stand c.loop-d.d c.loop-d-test.true, (c.requires.lookable.shifts_there c.loop-d.d c.loop-d-test.true, ((omega (arith, c.loop-d.invariant.2.past), omega (arith, c.loop-d.invariant.1, c.loop-d.invariant.2.as_long, room_step c.args.rhss.now c.args.n c.loop-d.d c.loop-d-test.true c.requires.lookable.right_sides)), c.requires.lookable.nodes)))
+    record { stands = c.requires.lookable.stand c.loop-d.d c.loop-d-test.true; all = c.requires.lookable.shifts_there c.loop-d.d c.loop-d-test.true; le_at = (omega (arith, c.loop-d.invariant.2.past), omega (arith, c.loop-d.invariant.1, c.loop-d.invariant.2.as_long, room_step c.args.rhss.now c.args.n c.loop-d.d c.loop-d-test.true c.requires.lookable.right_sides)); by_index = c.requires.lookable.nodes }
 
 pub overflow_mul-alive : goal.overflow_mul-alive
 overflow_mul-alive c = 

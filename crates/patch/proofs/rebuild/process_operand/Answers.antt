@@ -12,20 +12,20 @@ use Rattle.patch.proofs.Spells.{terms_step, terms_end, operand_read, operand_ter
 use Rattle.patch.proofs.rebuild.process_operand.Goals as goal
 
 pub operand_terms-ts-requires : goal.operand_terms-ts-requires
-operand_terms-ts-requires c = c.requires.by_index.1.0.0
+operand_terms-ts-requires c = c.requires.rooted.0.0
 
 pub loop-k-init : goal.loop-k-init
-loop-k-init c = (omega arith, refl, c.requires.by_index.1.1, refl)
+loop-k-init c = (omega arith, refl, c.requires.rooted.1, refl)
 
 pub expand_term-cur-requires : goal.expand_term-cur-requires
 expand_term-cur-requires c = 
-    (c.requires.readable, (c.requires.by_index.0 _, (operand_read ShiftsOf c.args.old.now c.args.new.now c.operand_terms-ts.result.now c.args.h c.loop-k.k c.operand_terms-ts.ensures c.requires.by_index.1.0.1 c.loop-k-test.true, omega (arith, c.loop-k.invariant.1, c.loop-k.invariant.2))))
+    record { readable = c.requires.readable; within = c.requires.by_index _; shifts_of = (operand_read ShiftsOf c.args.old.now c.args.new.now c.operand_terms-ts.result.now c.args.h c.loop-k.k c.operand_terms-ts.ensures c.requires.rooted.0.1 c.loop-k-test.true, omega (arith, c.loop-k.invariant.1, c.loop-k.invariant.2)) }
 
 pub loop-k-preserved : goal.loop-k-preserved
 loop-k-preserved c = 
     let q : Source = source c.args.old.now c.args.new.now c.args.rhss.now c.args.table.now c.args.decisions.now c.args.alive.now in (
       omega (arith, c.loop-k-test.true),
-      c.expand_term-cur.auto.1.1.1.1.1.1.0 ∙ c.loop-k.invariant.1,
+      omega arith,
       omega (arith, c.expand_term-cur.ensures.1, c.loop-k.invariant.1),
       ap (write_terms (spell q c.args.below) (map term_of (drop (c.loop-k.k + 1) c.operand_terms-ts.result.now))) c.expand_term-cur.ensures.0
           ∙ sym (terms_step (spell q c.args.below) c.operand_terms-ts.result.now c.loop-k.k (spelt c.loop-k.out c.loop-k.cur) c.loop-k-test.true) ∙ c.loop-k.invariant.3,

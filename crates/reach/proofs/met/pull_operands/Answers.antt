@@ -14,15 +14,15 @@ pub loop-i-init : goal.loop-i-init
 loop-i-init c = (refl, refl)
 
 pub operand_terms-ts-requires : goal.operand_terms-ts-requires
-operand_terms-ts-requires c = part_all c.args.hs.now c.args.n c.loop-i.i 0 c.requires.all.0 c.loop-i-test.true c.requires.n_in_bounds
+operand_terms-ts-requires c = part_all c.args.hs.now c.args.n c.loop-i.i 0 c.requires.all c.loop-i-test.true c.requires.n_in_bounds
 
 pub pull_terms-requires : goal.pull_terms-requires
 pull_terms-requires c = operand_usable c.args.old.now c.args.new.now (get_or c.args.hs.now c.loop-i.i 0) c.operand_terms-ts.result.now c.operand_terms-ts.ensures _
-    (subst (λ (k : ℕ). All (Usable k) (operand_of c.args.old.now c.args.new.now (get_or c.args.hs.now c.loop-i.i 0))) (sym c.loop-i.invariant.0) (part_all c.args.hs.now c.args.n c.loop-i.i 0 c.requires.all.1 c.loop-i-test.true c.requires.n_in_bounds))
+    (subst (λ (k : ℕ). All (Usable k) (operand_of c.args.old.now c.args.new.now (get_or c.args.hs.now c.loop-i.i 0))) (sym c.loop-i.invariant.0) (part_all c.args.hs.now c.args.n c.loop-i.i 0 c.requires.all_2 c.loop-i-test.true c.requires.n_in_bounds))
 
 pub loop-i-preserved : goal.loop-i-preserved
 loop-i-preserved c = (
-  c.pull_terms.auto.1.1.0 ∙ c.loop-i.invariant.0,
+  c.pull_terms.auto.masks ∙ c.loop-i.invariant.0,
   ap (pull_operands c.args.old.now c.args.new.now (drop (c.loop-i.i + 1) (take c.args.n c.args.hs.now)))
       (c.pull_terms.ensures ∙ ap (λ (o : Operand). pull_terms ones o c.loop-i.masks) (operand_terms c.args.old.now c.args.new.now (get_or c.args.hs.now c.loop-i.i 0) c.operand_terms-ts.result.now c.operand_terms-ts.ensures))
       ∙ sym (operands_go c.args.old.now c.args.new.now c.args.hs.now c.args.n c.requires.n_in_bounds c.loop-i.masks c.loop-i.i c.loop-i-test.true) ∙ c.loop-i.invariant.1,

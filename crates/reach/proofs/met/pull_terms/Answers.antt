@@ -17,7 +17,7 @@ pull_term-requires c = subst (λ (n : ℕ). Usable n (term_of (get_or c.args.ts.
 
 pub loop-i-preserved : goal.loop-i-preserved
 loop-i-preserved c = 
-    (c.pull_term.auto.1.1.0 ∙ c.loop-i.invariant.0, ap (pull_terms c.args.m (map term_of (drop (c.loop-i.i + 1) c.args.ts.now))) c.pull_term.ensures ∙ sym (pull_go c.args.m c.args.ts.now c.loop-i.masks c.loop-i.i c.loop-i-test.true) ∙ c.loop-i.invariant.1)
+    (c.pull_term.auto.masks ∙ c.loop-i.invariant.0, ap (pull_terms c.args.m (map term_of (drop (c.loop-i.i + 1) c.args.ts.now))) c.pull_term.ensures ∙ sym (pull_go c.args.m c.args.ts.now c.loop-i.masks c.loop-i.i c.loop-i-test.true) ∙ c.loop-i.invariant.1)
 
 pub returns : goal.returns
 returns c = sym (pull_end c.args.m c.args.ts.now c.loop-i.masks c.loop-i.i c.loop-i-test.false) ∙ c.loop-i.invariant.1

@@ -18,7 +18,7 @@ reach_one-requires c = let h : Held = held c.args.old.now c.args.new.now c.args.
 pub loop-i-preserved : goal.loop-i-preserved
 loop-i-preserved c = 
     let h : Held = held c.args.old.now c.args.new.now c.args.dsts.now c.args.rhss.now c.args.decisions.now in
-    (omega (arith, c.loop-i.invariant.0), c.reach_one.auto.1.1.1.1.1.0 ∙ c.loop-i.invariant.1, ap (reach_from h (drop (c.loop-i.i + 1) c.args.order.now)) c.reach_one.ensures ∙ sym (reach_go h c.args.order.now c.loop-i.masks c.loop-i.i c.loop-i-test.true) ∙ c.loop-i.invariant.2)
+    (omega (arith, c.loop-i.invariant.0), c.reach_one.auto.masks ∙ c.loop-i.invariant.1, ap (reach_from h (drop (c.loop-i.i + 1) c.args.order.now)) c.reach_one.ensures ∙ sym (reach_go h c.args.order.now c.loop-i.masks c.loop-i.i c.loop-i-test.true) ∙ c.loop-i.invariant.2)
 
 pub returns : goal.returns
 returns c = sym (reach_end (held c.args.old.now c.args.new.now c.args.dsts.now c.args.rhss.now c.args.decisions.now) c.args.order.now c.loop-i.masks c.loop-i.i c.loop-i-test.false) ∙ c.loop-i.invariant.2

@@ -19,7 +19,7 @@ loop-i-preserved c =
     let h : Held = held c.args.old.now c.args.new.now c.args.dsts.now c.args.rhss.now c.args.decisions.now in (
       omega arith,
       omega arith,
-      c.mask_one.auto.1.1.1.1.1.0 ∙ c.loop-i.invariant.2,
+      c.mask_one.auto.masks ∙ c.loop-i.invariant.2,
       from_back h c.args.masks.now c.args.order.now c.loop-i.i c.loop-i.masks _ (omega arith) c.loop-i.invariant.1 c.loop-i.invariant.3 c.mask_one.ensures,
     )
 

@@ -8,7 +8,7 @@ pub returns-then-decisions-i-eq0 : goal.returns-then-decisions-i-eq0
 returns-then-decisions-i-eq0 c = step_committed (held c.args.old.now c.args.new.now c.args.dsts.now c.args.rhss.now c.args.decisions.now) c.args.d.0 c.args.masks.now c.if-decisions-i-eq0.true
 
 pub operand_mask-m-requires : goal.operand_mask-m-requires
-operand_mask-m-requires c = terms_usable (held c.before.args.old.now c.before.args.new.now c.before.args.dsts.now c.before.args.rhss.now c.before.args.decisions.now) c.before.args.d.0 (length c.before.args.masks.now) c.operand-terms.result.now c.operand-terms.ensures c.before.requires.usable
+operand_mask-m-requires c = terms_usable (held c.args.old.now c.args.new.now c.args.dsts.now c.args.rhss.now c.args.decisions.now) c.args.d.0 (length c.args.masks.now) c.operand_terms-ts.result.now c.operand_terms-ts.ensures c.requires.usable
 
 pub returns : goal.returns
-returns c = step_open (held c.before.args.old.now c.before.args.new.now c.before.args.dsts.now c.before.args.rhss.now c.before.args.decisions.now) c.before.args.d.0 c.before.args.masks.now c.operand-terms.result.now c.operand_mask-m.result c.if1.false c.operand-terms.ensures c.operand_mask-m.ensures
+returns c = step_open (held c.args.old.now c.args.new.now c.args.dsts.now c.args.rhss.now c.args.decisions.now) c.args.d.0 c.args.masks.now c.operand_terms-ts.result.now c.operand_mask-m.result c.if-decisions-i-eq0.false c.operand_terms-ts.ensures c.operand_mask-m.ensures
