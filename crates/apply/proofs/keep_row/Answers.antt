@@ -11,19 +11,21 @@ use Prim.Native.Nat.{ℕ, ◌+◌, ◌-◌}
 use Rattle.apply.proofs.keep_row.Goals as goal
 
 pub row_names-requires : goal.row_names-requires
-row_names-requires c = let e : c.before.args.k ≡ c.before.args.from + c.before.args.k - c.before.args.from = omega arith in
-    subst (λ (m : ℕ). All (Stands c.before.args.old.now c.before.args.new.now) (take m (drop c.before.args.from c.before.args.hs.now))) e c.before.requires.2
+row_names-requires c = let e : c.args.k ≡ c.args.from + c.args.k - c.args.from = omega arith in
+    subst (λ (m : ℕ). All (Stands c.args.old.now c.args.new.now) (take m (drop c.args.from c.args.hs.now))) e c.requires.2
 
 pub returns-then-row_names : goal.returns-then-row_names
-returns-then-row_names c = let row = take c.before.args.k (drop c.before.args.from c.before.args.hs.now) in
-    let e : c.before.args.from + c.before.args.k - c.before.args.from ≡ c.before.args.k = omega arith in
-    kept_no _ c.before.args.hs.now c.before.args.to row
-    (untouched-told c.before.args.old.now c.before.args.new.now c.before.args.table.now row _ _ (ap (λ (m : ℕ). take m (drop c.before.args.from c.before.args.hs.now)) e) c.row_names.ensures ∙ ap not c.if-row_names.true)
+returns-then-row_names c = let row = take c.args.k (drop c.args.from c.args.hs.now) in
+    let e : c.args.from + c.args.k - c.args.from ≡ c.args.k = omega arith in
+    let k = kept_no _ c.args.hs.now c.args.to row
+    (untouched-told c.args.old.now c.args.new.now c.args.table.now row _ _ (ap (λ (m : ℕ). take m (drop c.args.from c.args.hs.now)) e) c.row_names.ensures ∙ ap not c.if-row_names.true) in
+    record { hs_after = k.0; value = k.1 }
 
 pub returns : goal.returns
-returns c = let row = take c.before.args.k (drop c.before.args.from c.before.args.hs.now) in
-    let e : c.before.args.from + c.before.args.k - c.before.args.from ≡ c.before.args.k = omega arith in
-    kept_yes _ c.before.args.hs.now _ c.before.args.to c.before.args.k row
-    (untouched-told c.before.args.old.now c.before.args.new.now c.before.args.table.now row _ _ (ap (λ (m : ℕ). take m (drop c.before.args.from c.before.args.hs.now)) e) c.row_names.ensures ∙ ap not c.if-row_names.false)
-    (length-take-le c.before.args.k (drop c.before.args.from c.before.args.hs.now) (omega (arith, length-drop c.before.args.from c.before.args.hs.now, c.before.requires.1)))
-    c.move_row.ensures
+returns c = let row = take c.args.k (drop c.args.from c.args.hs.now) in
+    let e : c.args.from + c.args.k - c.args.from ≡ c.args.k = omega arith in
+    let k = kept_yes _ c.args.hs.now _ c.args.to c.args.k row
+    (untouched-told c.args.old.now c.args.new.now c.args.table.now row _ _ (ap (λ (m : ℕ). take m (drop c.args.from c.args.hs.now)) e) c.row_names.ensures ∙ ap not c.if-row_names.false)
+    (length-take-le c.args.k (drop c.args.from c.args.hs.now) (omega (arith, length-drop c.args.from c.args.hs.now, c.requires.1)))
+    c.move_row.ensures in
+    record { hs_after = k.0; value = k.1 }

@@ -21,21 +21,19 @@ loop-i-preserved c = let q = is_stranded c.args.decisions.now c.args.reach.now i
     let a : c.loop-i.i < length c.args.dsts.now = omega (arith, c.loop-i-test.true, c.requires.0) in
     let b : c.loop-i.i < length c.args.rhss.now = omega (arith, c.loop-i-test.true, c.requires.1) in
     let d = keep_step q c.args.dsts.now c.loop-i.i c.loop-i.at a c.loop-i.invariant.5 c.loop-i.dsts _ c.loop-i.invariant.3 c.keep_definition-at.ensures.dsts_after in
-    let h = keep_step q c.args.rhss.now c.loop-i.i c.loop-i.at b c.loop-i.invariant.6 c.loop-i.rhss _ c.loop-i.invariant.4 c.keep_definition-at.ensures.rhss_after.0 in (
+    let h = keep_step q c.args.rhss.now c.loop-i.i c.loop-i.at b c.loop-i.invariant.6 c.loop-i.rhss _ c.loop-i.invariant.4 c.keep_definition-at.ensures.rhss_after in (
       omega (arith, c.loop-i-test.true),
       ap length d ∙ length-sets c.args.dsts.now 0 (keep_from q 0 (take (c.loop-i.i + 1) c.args.dsts.now)),
       ap length h ∙ length-sets c.args.rhss.now 0 (keep_from q 0 (take (c.loop-i.i + 1) c.args.rhss.now)),
       d,
       h,
-      keep_count q c.args.dsts.now c.loop-i.i c.loop-i.at a c.loop-i.invariant.5 _ c.loop-i.i c.keep_definition-at.ensures.rhss_after.1,
-      keep_count q c.args.rhss.now c.loop-i.i c.loop-i.at b c.loop-i.invariant.6 _ c.loop-i.i c.keep_definition-at.ensures.rhss_after.1,
+      keep_count q c.args.dsts.now c.loop-i.i c.loop-i.at a c.loop-i.invariant.5 _ c.loop-i.i c.keep_definition-at.ensures.value,
+      keep_count q c.args.rhss.now c.loop-i.i c.loop-i.at b c.loop-i.invariant.6 _ c.loop-i.i c.keep_definition-at.ensures.value,
     )
 
 pub returns : goal.returns
-returns c = let q = is_stranded c.args.decisions.now c.args.reach.now in let e : c.loop-i.i ≡ c.args.n = omega (arith, c.loop-i-test.false, c.loop-i.invariant.0) in (
-  c.loop-i.invariant.3 ∙ ap (λ (j : ℕ). sets c.args.dsts.now 0 (keep_from q 0 (take j c.args.dsts.now))) e,
-  (
-    c.loop-i.invariant.4 ∙ ap (λ (j : ℕ). sets c.args.rhss.now 0 (keep_from q 0 (take j c.args.rhss.now))) e,
-    c.loop-i.invariant.5 ∙ ap (λ (j : ℕ). length (keep_from q 0 (take j c.args.dsts.now))) e,
-  ),
-)
+returns c = let q = is_stranded c.args.decisions.now c.args.reach.now in let e : c.loop-i.i ≡ c.args.n = omega (arith, c.loop-i-test.false, c.loop-i.invariant.0) in record {
+  dsts_after = c.loop-i.invariant.3 ∙ ap (λ (j : ℕ). sets c.args.dsts.now 0 (keep_from q 0 (take j c.args.dsts.now))) e;
+  rhss_after = c.loop-i.invariant.4 ∙ ap (λ (j : ℕ). sets c.args.rhss.now 0 (keep_from q 0 (take j c.args.rhss.now))) e;
+  value = c.loop-i.invariant.5 ∙ ap (λ (j : ℕ). length (keep_from q 0 (take j c.args.dsts.now))) e;
+}

@@ -11,9 +11,9 @@ unfolding told_fused
 returns-then-fault-ne0 c = refused c.check-fault.ensures c.if-fault-ne0.true refl
 
 pub overflow_cast-slots : goal.overflow_cast-slots
-overflow_cast-slots c = 
-    let l : Lent = lent c.before.before.before.before.before.before.args.old.now c.before.before.before.before.before.before.args.new.now c.before.before.before.before.before.before.args.ands.now c.before.before.before.before.before.before.args.imuls.now c.before.before.before.before.before.before.args.bmuls.now c.before.before.before.before.before.before.args.zeros.now c.before.before.before.before.before.before.args.dsts.now c.before.before.before.before.before.before.args.rhss.now c.before.before.before.before.before.before.args.flags.now in
-    omega (arith, slots_few c.before.before.before.before.before.before.args.slots c.before.before.before.before.before.before.args.z (input l) (sym c.check-fault.ensures ∙ c.if-fault-ne0.false))
+overflow_cast-slots c =
+    let l : Lent = lent c.args.old.now c.args.new.now c.args.ands.now c.args.imuls.now c.args.bmuls.now c.args.zeros.now c.args.dsts.now c.args.rhss.now c.args.flags.now in
+    omega (arith, slots_few c.args.slots c.args.z (input l) (sym c.check-fault.ensures ∙ c.if-fault-ne0.false))
 
 pub fuse_checked-requires : goal.fuse_checked-requires
 fuse_checked-requires c = sym c.check-fault.ensures ∙ c.if-fault-ne0.false

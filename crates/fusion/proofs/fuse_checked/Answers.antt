@@ -9,21 +9,22 @@ use mathlib.Core.Path.{refl, ◌∙◌}
 use Rattle.fusion.proofs.fuse_checked.Goals as goal
 
 pub order_definitions-walked-requires : goal.order_definitions-walked-requires
-order_definitions-walked-requires c = 
-    let l : Lent = lent c.before.before.args.old.now c.before.before.args.new.now c.before.before.args.ands.now c.before.before.args.imuls.now c.before.before.args.bmuls.now c.before.before.args.zeros.now c.before.before.args.dsts.now c.before.before.args.rhss.now c.before.before.args.flags.now in
-    walk_asks c.before.before.args.slots c.before.before.args.z (input l) c.before.before.requires
+order_definitions-walked-requires c =
+    let l : Lent = lent c.args.old.now c.args.new.now c.args.ands.now c.args.imuls.now c.args.bmuls.now c.args.zeros.now c.args.dsts.now c.args.rhss.now c.args.flags.now in
+    let a = walk_asks c.args.slots c.args.z (input l) c.requires in
+    record { count_in_bounds = a.0; sound = a.1.0; by_index = a.1.1 }
 
 pub returns-then-walked : goal.returns-then-walked
 unfolding told_fused
-returns-then-walked c = 
-    let l : Lent = lent c.before.before.args.old.now c.before.before.args.new.now c.before.before.args.ands.now c.before.before.args.imuls.now c.before.before.args.bmuls.now c.before.before.args.zeros.now c.before.before.args.dsts.now c.before.before.args.rhss.now c.before.before.args.flags.now in
-    let x = (outcome c.before.before.args.slots c.before.before.args.z (input l) c.before.before.requires c.order_definitions-walked.result _ c.order_definitions-walked.ensures.left_value.0 c.order_definitions-walked.ensures.left_value.1.0 c.order_definitions-walked.ensures.left_value.1.1).circle c.if-walked.true in
-    circular c.before.before.requires x.0 x.1 refl
+returns-then-walked c =
+    let l : Lent = lent c.args.old.now c.args.new.now c.args.ands.now c.args.imuls.now c.args.bmuls.now c.args.zeros.now c.args.dsts.now c.args.rhss.now c.args.flags.now in
+    let x = (outcome c.args.slots c.args.z (input l) c.requires c.order_definitions-walked.result _ c.order_definitions-walked.ensures.left_value c.order_definitions-walked.ensures.circle_value c.order_definitions-walked.ensures.order_after).circle c.if-walked.true in
+    circular c.requires x.0 x.1 refl
 
 pub fuse_in_order-requires : goal.fuse_in_order-requires
-fuse_in_order-requires c = 
-    let l : Lent = lent c.before.before.args.old.now c.before.before.args.new.now c.before.before.args.ands.now c.before.before.args.imuls.now c.before.before.args.bmuls.now c.before.before.args.zeros.now c.before.before.args.dsts.now c.before.before.args.rhss.now c.before.before.args.flags.now in
-    record { rhss_value = c.before.before.requires; ordered = ordered c.before.before.args.slots c.before.before.args.z (input l) c.before.before.requires c.order_definitions-walked.result _ _ c.order_definitions-walked.ensures.table_after c.order_definitions-walked.ensures.left_value.0 c.order_definitions-walked.ensures.left_value.1.0 c.order_definitions-walked.ensures.left_value.1.1 (c.order_definitions-walked.auto.1.1.1.1.1.1.0 ∙ length-replicate {A = ℕ} 1024 0) c.if-walked.false }
+fuse_in_order-requires c =
+    let l : Lent = lent c.args.old.now c.args.new.now c.args.ands.now c.args.imuls.now c.args.bmuls.now c.args.zeros.now c.args.dsts.now c.args.rhss.now c.args.flags.now in
+    record { rhss_value = c.requires; ordered = ordered c.args.slots c.args.z (input l) c.requires c.order_definitions-walked.result _ _ c.order_definitions-walked.ensures.table_after c.order_definitions-walked.ensures.left_value c.order_definitions-walked.ensures.circle_value c.order_definitions-walked.ensures.order_after (c.order_definitions-walked.auto.order ∙ length-replicate {A = ℕ} 1024 0) c.if-walked.false }
 
 pub returns : goal.returns
 returns c = c.fuse_in_order.ensures

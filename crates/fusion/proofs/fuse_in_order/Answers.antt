@@ -6,16 +6,17 @@ use Prim.Native.Nat.{ℕ}
 use Rattle.fusion.proofs.fuse_in_order.Goals as goal
 
 pub decide_in_order-requires : goal.decide_in_order-requires
-decide_in_order-requires c = 
-    let l : Lent = lent c.before.before.before.before.before.before.args.old.now c.before.before.before.before.before.before.args.new.now c.before.before.before.before.before.before.args.ands.now c.before.before.before.before.before.before.args.imuls.now c.before.before.before.before.before.before.args.bmuls.now c.before.before.before.before.before.before.args.zeros.now c.before.before.before.before.before.before.args.dsts.now c.before.before.before.before.before.before.args.rhss.now c.before.before.before.before.before.before.args.flags.now in
-    decide_asks c.before.before.before.before.before.before.args.slots c.before.before.before.before.before.before.args.z (input l) c.before.before.before.before.before.before.requires.0 _ _ _ c.before.before.before.before.before.before.requires.1 _ (length-replicate {A = ℕ} 1024 0)
+decide_in_order-requires c =
+    let l : Lent = lent c.args.old.now c.args.new.now c.args.ands.now c.args.imuls.now c.args.bmuls.now c.args.zeros.now c.args.dsts.now c.args.rhss.now c.args.flags.now in
+    let a = decide_asks c.args.slots c.args.z (input l) c.requires.rhss_value _ _ _ c.requires.ordered _ (length-replicate {A = ℕ} 1024 0) in
+    record { rhss_value = a.0; once = a.1.0; table_value = a.1.1.0; in_order = a.1.1.1.0; by_index = a.1.1.1.1 }
 
 pub patch_decided-requires : goal.patch_decided-requires
-patch_decided-requires c = 
-    let l : Lent = lent c.before.before.before.before.before.before.args.old.now c.before.before.before.before.before.before.args.new.now c.before.before.before.before.before.before.args.ands.now c.before.before.before.before.before.before.args.imuls.now c.before.before.before.before.before.before.args.bmuls.now c.before.before.before.before.before.before.args.zeros.now c.before.before.before.before.before.before.args.dsts.now c.before.before.before.before.before.before.args.rhss.now c.before.before.before.before.before.before.args.flags.now in
-    record { ready = ready c.before.before.before.before.before.before.args.slots c.before.before.before.before.before.before.args.z l c.before.before.before.before.before.before.requires.0 _ _ _ c.before.before.before.before.before.before.requires.1 _ _ c.decide_in_order.ensures (length-replicate {A = ℕ} 1024 0); ordered = c.before.before.before.before.before.before.requires.1 }
+patch_decided-requires c =
+    let l : Lent = lent c.args.old.now c.args.new.now c.args.ands.now c.args.imuls.now c.args.bmuls.now c.args.zeros.now c.args.dsts.now c.args.rhss.now c.args.flags.now in
+    record { ready = ready c.args.slots c.args.z l c.requires.rhss_value _ _ _ c.requires.ordered _ _ c.decide_in_order.ensures (length-replicate {A = ℕ} 1024 0); ordered = c.requires.ordered }
 
 pub returns : goal.returns
-returns c = 
-    let l : Lent = lent c.before.before.before.before.before.before.args.old.now c.before.before.before.before.before.before.args.new.now c.before.before.before.before.before.before.args.ands.now c.before.before.before.before.before.before.args.imuls.now c.before.before.before.before.before.before.args.bmuls.now c.before.before.before.before.before.before.args.zeros.now c.before.before.before.before.before.before.args.dsts.now c.before.before.before.before.before.before.args.rhss.now c.before.before.before.before.before.before.args.flags.now in
-    done_answer c.before.before.before.before.before.before.args.slots c.before.before.before.before.before.before.args.z l c.before.before.before.before.before.before.requires.0 _ _ _ c.before.before.before.before.before.before.requires.1 _ _ c.decide_in_order.ensures _ _ c.patch_decided.ensures
+returns c =
+    let l : Lent = lent c.args.old.now c.args.new.now c.args.ands.now c.args.imuls.now c.args.bmuls.now c.args.zeros.now c.args.dsts.now c.args.rhss.now c.args.flags.now in
+    done_answer c.args.slots c.args.z l c.requires.rhss_value _ _ _ c.requires.ordered _ _ c.decide_in_order.ensures _ _ c.patch_decided.ensures

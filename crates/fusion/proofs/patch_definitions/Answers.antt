@@ -6,11 +6,12 @@ pub retain_stranded-stranded-requires : goal.retain_stranded-stranded-requires
 retain_stranded-stranded-requires c = (c.requires.dsts_there, c.requires.rhss_there)
 
 pub add_committed-committed-requires : goal.add_committed-committed-requires
-add_committed-committed-requires c = 
-    add_asks c.args.dsts.now c.args.rhss.now c.args.n c.args.wires c.args.decisions.now c.args.table.now c.args.reach.now c.args.list.now c.args.from c.requires _ _ _ c.retain_stranded-stranded.ensures.dsts_after c.retain_stranded-stranded.ensures.rhss_after.0 c.retain_stranded-stranded.ensures.rhss_after.1
+add_committed-committed-requires c =
+    let a = add_asks c.args.dsts.now c.args.rhss.now c.args.n c.args.wires c.args.decisions.now c.args.table.now c.args.reach.now c.args.list.now c.args.from c.requires _ _ _ c.retain_stranded-stranded.ensures.dsts_after c.retain_stranded-stranded.ensures.rhss_after c.retain_stranded-stranded.ensures.value in
+    record { wires_bound = a.0; wires_in_bounds = a.1.0; wires_in_bounds_2 = a.1.1.0; wires_in_bounds_3 = a.1.1.1 }
 
 pub returns : goal.returns
-returns c = 
-    let d = dsts_closed c.args.dsts.now c.args.rhss.now c.args.n c.args.wires c.args.decisions.now c.args.table.now c.args.reach.now c.args.list.now c.args.from c.requires _ _ _ c.retain_stranded-stranded.ensures.dsts_after c.retain_stranded-stranded.ensures.rhss_after.0 c.retain_stranded-stranded.ensures.rhss_after.1 _ c.add_committed-committed.ensures.dsts_after in
-    let r = rhss_closed c.args.dsts.now c.args.rhss.now c.args.n c.args.wires c.args.decisions.now c.args.table.now c.args.reach.now c.args.list.now c.args.from c.requires _ _ _ c.retain_stranded-stranded.ensures.dsts_after c.retain_stranded-stranded.ensures.rhss_after.0 c.retain_stranded-stranded.ensures.rhss_after.1 _ c.add_committed-committed.ensures.rhss_after.0 in
-    (d, (r, (c.retain_stranded-stranded.ensures.rhss_after.1, c.add_committed-committed.ensures.rhss_after.1)))
+returns c =
+    let d = dsts_closed c.args.dsts.now c.args.rhss.now c.args.n c.args.wires c.args.decisions.now c.args.table.now c.args.reach.now c.args.list.now c.args.from c.requires _ _ _ c.retain_stranded-stranded.ensures.dsts_after c.retain_stranded-stranded.ensures.rhss_after c.retain_stranded-stranded.ensures.value _ c.add_committed-committed.ensures.dsts_after in
+    let r = rhss_closed c.args.dsts.now c.args.rhss.now c.args.n c.args.wires c.args.decisions.now c.args.table.now c.args.reach.now c.args.list.now c.args.from c.requires _ _ _ c.retain_stranded-stranded.ensures.dsts_after c.retain_stranded-stranded.ensures.rhss_after c.retain_stranded-stranded.ensures.value _ c.add_committed-committed.ensures.rhss_after in
+    record { dsts_after = d; rhss_after = r; stranded_value = (c.retain_stranded-stranded.ensures.value, c.add_committed-committed.ensures.value) }
