@@ -86,7 +86,7 @@ fn composition(c: Composition, values: &mut [u64]) -> u8
 }
 
 pub fn composed(answer: Composed, values: &mut [u64]) -> u8
-    ensures { Gives (S.toldComposed answer) values.old result values.new }
+    ensures { Gives (S.told_composed answer) values.old result values.new }
 {
     match answer {
         Composed::Is(c) => composition(c, values),
@@ -105,7 +105,7 @@ fn sequence(p: PushInner, values: &mut [u64]) -> u8
 }
 
 pub fn pushed(answer: Pushed, values: &mut [u64]) -> u8
-    ensures { Gives (O.toldPushed answer) values.old result values.new }
+    ensures { Gives (O.told_pushed answer) values.old result values.new }
 {
     match answer {
         Pushed::Is(p) => sequence(p, values),

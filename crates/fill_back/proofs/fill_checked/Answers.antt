@@ -14,29 +14,30 @@ add_lin_defs-requires c =
 pub walk-walked-requires : goal.walk-walked-requires
 walk-walked-requires c = 
     let st : Stores = stores c.args.old.now c.args.new.now c.args.ands.now c.args.imuls.now c.args.bmuls.now c.args.zeros.now c.args.dsts.now c.args.rhss.now in
-    walk_there c.args.z st c.requires _ c.add_lin_defs.ensures
+    let w = walk_there c.args.z st c.requires _ c.add_lin_defs.ensures in
+    record { sound = w.0; count_bound = w.1 }
 
 pub returns-then-walked : goal.returns-then-walked
 returns-then-walked c = 
     let st : Stores = stores c.args.old.now c.args.new.now c.args.ands.now c.args.imuls.now c.args.bmuls.now c.args.zeros.now c.args.dsts.now c.args.rhss.now in
-    let r = outcome c.args.z st c.requires _ c.walk-walked.result _ c.add_lin_defs.ensures c.walk-walked.ensures.left_value c.walk-walked.ensures.circle_value.0 c.walk-walked.ensures.circle_value.1 in
+    let r = outcome c.args.z st c.requires _ c.walk-walked.result _ c.add_lin_defs.ensures c.walk-walked.ensures.left_value c.walk-walked.ensures.circle_value c.walk-walked.ensures.order_after in
     let x = r.circle c.if-walked.true in
     circular c.requires x.0 x.1 refl
 
 pub returns-then-not-lengths_right : goal.returns-then-not-lengths_right
 returns-then-not-lengths_right c = 
-    let st : Stores = stores c.before.args.old.now c.before.args.new.now c.before.args.ands.now c.before.args.imuls.now c.before.args.bmuls.now c.before.args.zeros.now c.before.args.dsts.now c.before.args.rhss.now in
-    let r = outcome c.before.args.z st c.before.requires _ c.walk.result _ c.add-lin-defs.ensures c.walk.ensures.0 c.walk.ensures.1.0 c.walk.ensures.1.1 in
-    sized c.before.requires (r.none c.if1.false) (sym c.lengths_right.ensures ∙ c.if-not-lengths_right.true) refl
+    let st : Stores = stores c.args.old.now c.args.new.now c.args.ands.now c.args.imuls.now c.args.bmuls.now c.args.zeros.now c.args.dsts.now c.args.rhss.now in
+    let r = outcome c.args.z st c.requires _ c.walk-walked.result _ c.add_lin_defs.ensures c.walk-walked.ensures.left_value c.walk-walked.ensures.circle_value c.walk-walked.ensures.order_after in
+    sized c.requires (r.none c.if-walked.false) (sym c.lengths_right.ensures ∙ c.if-not-lengths_right.true) refl
 
 pub fill_from-requires : goal.fill_from-requires
 fill_from-requires c = 
-    let st : Stores = stores c.before.args.old.now c.before.args.new.now c.before.args.ands.now c.before.args.imuls.now c.before.args.bmuls.now c.before.args.zeros.now c.before.args.dsts.now c.before.args.rhss.now in
-    let r = outcome c.before.args.z st c.before.requires _ c.walk.result _ c.add-lin-defs.ensures c.walk.ensures.0 c.walk.ensures.1.0 c.walk.ensures.1.1 in
-    record { all = all_able c.before.args.z st c.before.requires c.before.args.flags.now c.before.args.assignment.now (sym c.lengths_right.ensures ∙ c.if-not-lengths_right.false) _ _ r c.if1.false; left_in_bounds = r.within c.if1.false }
+    let st : Stores = stores c.args.old.now c.args.new.now c.args.ands.now c.args.imuls.now c.args.bmuls.now c.args.zeros.now c.args.dsts.now c.args.rhss.now in
+    let r = outcome c.args.z st c.requires _ c.walk-walked.result _ c.add_lin_defs.ensures c.walk-walked.ensures.left_value c.walk-walked.ensures.circle_value c.walk-walked.ensures.order_after in
+    record { all = all_able c.args.z st c.requires c.args.flags.now c.args.assignment.now (sym c.lengths_right.ensures ∙ c.if-not-lengths_right.false) _ _ r c.if-walked.false; left_in_bounds = r.within c.if-walked.false }
 
 pub returns : goal.returns
 returns c = 
-    let st : Stores = stores c.before.args.old.now c.before.args.new.now c.before.args.ands.now c.before.args.imuls.now c.before.args.bmuls.now c.before.args.zeros.now c.before.args.dsts.now c.before.args.rhss.now in
-    let r = outcome c.before.args.z st c.before.requires _ c.walk.result _ c.add-lin-defs.ensures c.walk.ensures.0 c.walk.ensures.1.0 c.walk.ensures.1.1 in
-    filled_answer c.before.args.z st c.before.requires c.before.args.flags.now c.before.args.assignment.now (sym c.lengths_right.ensures ∙ c.if-not-lengths_right.false) _ _ r c.if1.false _ c.fill_from.ensures
+    let st : Stores = stores c.args.old.now c.args.new.now c.args.ands.now c.args.imuls.now c.args.bmuls.now c.args.zeros.now c.args.dsts.now c.args.rhss.now in
+    let r = outcome c.args.z st c.requires _ c.walk-walked.result _ c.add_lin_defs.ensures c.walk-walked.ensures.left_value c.walk-walked.ensures.circle_value c.walk-walked.ensures.order_after in
+    filled_answer c.args.z st c.requires c.args.flags.now c.args.assignment.now (sym c.lengths_right.ensures ∙ c.if-not-lengths_right.false) _ _ r c.if-walked.false _ c.fill_from.ensures

@@ -7,4 +7,4 @@ pub returns-then-flags-wires : goal.returns-then-flags-wires
 returns-then-flags-wires c = lengths_wrong c.args.z c.args.flags.now c.args.assignment.now (λ e. omega (arith, e, c.if-flags-wires.true))
 
 pub returns : goal.returns
-returns c = lengths_last c.args.z c.args.flags.now c.args.assignment.now (omega (arith, c.if-flags-wires.false))
+returns c = lengths_last c.args.z c.args.flags.now c.args.assignment.now (omega arith)

@@ -19,7 +19,7 @@ loop-i-preserved c =
     let h : Held = held c.args.old.now c.args.new.now c.args.dsts.now c.args.rhss.now c.args.flags.now in (
       omega arith,
       omega arith,
-      c.fill_one.auto.1.1.1.1.1.0 ∙ c.loop-i.invariant.2,
+      c.fill_one.auto.assignment ∙ c.loop-i.invariant.2,
       from_back h c.args.assignment.now c.args.order.now c.loop-i.i c.loop-i.assignment _ (omega arith) c.loop-i.invariant.1 c.loop-i.invariant.3 c.fill_one.ensures,
     )
 

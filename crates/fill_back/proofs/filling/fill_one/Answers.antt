@@ -8,7 +8,7 @@ pub returns-then-flags-w-ne0 : goal.returns-then-flags-w-ne0
 returns-then-flags-w-ne0 c = step_committed (held c.args.old.now c.args.new.now c.args.dsts.now c.args.rhss.now c.args.flags.now) c.args.d.0 c.args.assignment.now (λ e. omega (arith, e, c.if-flags-w-ne0.true))
 
 pub operand_value-requires : goal.operand_value-requires
-operand_value-requires c = record { stands = c.before.requires.stands; all = c.before.requires.shifted }
+operand_value-requires c = record { stands = c.requires.stands; all = c.requires.shifted }
 
 pub returns : goal.returns
-returns c = step_open (held c.before.args.old.now c.before.args.new.now c.before.args.dsts.now c.before.args.rhss.now c.before.args.flags.now) c.before.args.d.0 c.before.args.assignment.now _ (omega (arith, c.if1.false)) c.operand_value.ensures
+returns c = step_open (held c.args.old.now c.args.new.now c.args.dsts.now c.args.rhss.now c.args.flags.now) c.args.d.0 c.args.assignment.now _ (omega arith) c.operand_value.ensures
