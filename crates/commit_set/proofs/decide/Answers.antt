@@ -10,7 +10,7 @@ pub returns-then-fault-ne0 : goal.returns-then-fault-ne0
 returns-then-fault-ne0 c = refused c.check-fault.ensures c.if-fault-ne0.true refl
 
 pub overflow_cast-slots : goal.overflow_cast-slots
-overflow_cast-slots c = 
+overflow_cast-slots c =
     let st : Stores = stores c.args.old.now c.args.new.now c.args.ands.now c.args.imuls.now c.args.bmuls.now c.args.zeros.now c.args.dsts.now c.args.rhss.now in
     omega (arith, slots_few c.args.slots c.args.z st (sym c.check-fault.ensures ∙ c.if-fault-ne0.false))
 

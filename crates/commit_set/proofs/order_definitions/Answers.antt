@@ -10,16 +10,15 @@ pub add_lin_defs-requires : goal.add_lin_defs-requires
 add_lin_defs-requires c = c.requires.count_in_bounds
 
 pub walk-requires : goal.walk-requires
-walk-requires c = record { sound = subst (λ (l : List ℕ). Sound c.before.args.old.now c.before.args.new.now c.before.args.rhss.now l 1024) (sym c.add-lin-defs.ensures) c.before.requires.1.0; count_bound = (c.before.requires.0.1, c.before.requires.1.1) }
+walk-requires c = record {
+  sound = subst (λ (l : List ℕ). Sound c.args.old.now c.args.new.now c.args.rhss.now l 1024) (sym c.add_lin_defs.ensures) c.requires.sound;
+  count_bound = (c.requires.count_in_bounds.1, c.requires.by_index);
+}
 
 pub returns : goal.returns
-returns c = (
-  c.add-lin-defs.ensures,
-  (
-    c.walk.ensures.left_value ∙ ap (λ (l : List ℕ). (walk_of (rhs_in c.before.args.old.now c.before.args.new.now c.before.args.rhss.now) l c.before.args.count (replicate 1024 0) c.before.args.order.now).left) c.add-lin-defs.ensures,
-    (
-      c.walk.ensures.circle_value.0 ∙ ap (λ (l : List ℕ). (walk_of (rhs_in c.before.args.old.now c.before.args.new.now c.before.args.rhss.now) l c.before.args.count (replicate 1024 0) c.before.args.order.now).circle) c.add-lin-defs.ensures,
-      c.walk.ensures.circle_value.1 ∙ ap (λ (l : List ℕ). (walk_of (rhs_in c.before.args.old.now c.before.args.new.now c.before.args.rhss.now) l c.before.args.count (replicate 1024 0) c.before.args.order.now).order) c.add-lin-defs.ensures,
-    ),
-  ),
-)
+returns c = record {
+  table_after = c.add_lin_defs.ensures;
+  left_value = c.walk.ensures.left_value ∙ ap (λ (l : List ℕ). (walk_of (rhs_in c.args.old.now c.args.new.now c.args.rhss.now) l c.args.count (replicate 1024 0) c.args.order.now).left) c.add_lin_defs.ensures;
+  circle_value = c.walk.ensures.circle_value ∙ ap (λ (l : List ℕ). (walk_of (rhs_in c.args.old.now c.args.new.now c.args.rhss.now) l c.args.count (replicate 1024 0) c.args.order.now).circle) c.add_lin_defs.ensures;
+  order_after = c.walk.ensures.order_after ∙ ap (λ (l : List ℕ). (walk_of (rhs_in c.args.old.now c.args.new.now c.args.rhss.now) l c.args.count (replicate 1024 0) c.args.order.now).order) c.add_lin_defs.ensures;
+}

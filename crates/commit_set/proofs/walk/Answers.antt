@@ -4,4 +4,8 @@ use Rattle.legraph.specs.Walked.{Walked}
 use Rattle.commit_set.proofs.walk.Goals as goal
 
 pub returns : goal.returns
-returns c = (ap (λ (x : Walked). x.left) c.walk.ensures, (ap (λ (x : Walked). x.circle) c.walk.ensures, ap (λ (x : Walked). x.order) c.walk.ensures))
+returns c = record {
+  left_value = ap (λ (x : Walked). x.left) c.walk.ensures;
+  circle_value = ap (λ (x : Walked). x.circle) c.walk.ensures;
+  order_after = ap (λ (x : Walked). x.order) c.walk.ensures;
+}

@@ -5,22 +5,29 @@ use native.Mathlib.Omega.{arith}
 use mathlib.Core.Path.{sym, ◌∙◌}
 use Rattle.evaluate.proofs.fault_of.Goals as goal
 
-abbrev of : goal.Start → Stores
-of s = stores s.args.old.now s.args.new.now s.args.ands.now s.args.imuls.now s.args.bmuls.now s.args.zeros.now s.args.dsts.now s.args.rhss.now
-
 pub returns-then-fault-ne0 : goal.returns-then-fault-ne0
-returns-then-fault-ne0 c = fault_memory c.args.z (of c) c.args.n c.args.room c.check-fault.result c.check-fault.ensures c.if-fault-ne0.true
+returns-then-fault-ne0 c =
+    let st : Stores = stores c.args.old.now c.args.new.now c.args.ands.now c.args.imuls.now c.args.bmuls.now c.args.zeros.now c.args.dsts.now c.args.rhss.now in
+    fault_memory c.args.z st c.args.n c.args.room c.check-fault.result c.check-fault.ensures c.if-fault-ne0.true
 
 pub returns-then-n-wires : goal.returns-then-n-wires
-returns-then-n-wires c = fault_size c.args.z (of c) c.args.n c.args.room (sym c.check-fault.ensures ∙ c.if-fault-ne0.false) (λ e. omega (arith, e, c.if-n-wires.true))
+returns-then-n-wires c =
+    let st : Stores = stores c.args.old.now c.args.new.now c.args.ands.now c.args.imuls.now c.args.bmuls.now c.args.zeros.now c.args.dsts.now c.args.rhss.now in
+    fault_size c.args.z st c.args.n c.args.room (sym c.check-fault.ensures ∙ c.if-fault-ne0.false) (λ e. omega (arith, e, c.if-n-wires.true))
 
 pub count-requires : goal.count-requires
-count-requires c = few c.args.z (of c) (sym c.check-fault.ensures ∙ c.if-fault-ne0.false)
+count-requires c =
+    let st : Stores = stores c.args.old.now c.args.new.now c.args.ands.now c.args.imuls.now c.args.bmuls.now c.args.zeros.now c.args.dsts.now c.args.rhss.now in
+    few c.args.z st (sym c.check-fault.ensures ∙ c.if-fault-ne0.false)
 
 pub returns-then-room-count : goal.returns-then-room-count
-returns-then-room-count c = let e = sym c.check-fault.ensures ∙ c.if-fault-ne0.false in
-    fault_room c.args.z (of c) c.args.n c.args.room e (omega (arith, c.if-n-wires.false)) (omega (arith, operands_count c.args.z (of c) e, c.count.ensures, c.if-room-count.true))
+returns-then-room-count c =
+    let st : Stores = stores c.args.old.now c.args.new.now c.args.ands.now c.args.imuls.now c.args.bmuls.now c.args.zeros.now c.args.dsts.now c.args.rhss.now in
+    let e = sym c.check-fault.ensures ∙ c.if-fault-ne0.false in
+    fault_room c.args.z st c.args.n c.args.room e (omega (arith, c.if-n-wires.false)) (omega (arith, operands_count c.args.z st e, c.count.ensures, c.if-room-count.true))
 
 pub returns : goal.returns
-returns c = let e = sym c.check-fault.ensures ∙ c.if-fault-ne0.false in
-    fault_none c.args.z (of c) c.args.n c.args.room e (omega (arith, c.if-n-wires.false)) (omega (arith, operands_count c.args.z (of c) e, c.count.ensures, c.if-room-count.false))
+returns c =
+    let st : Stores = stores c.args.old.now c.args.new.now c.args.ands.now c.args.imuls.now c.args.bmuls.now c.args.zeros.now c.args.dsts.now c.args.rhss.now in
+    let e = sym c.check-fault.ensures ∙ c.if-fault-ne0.false in
+    fault_none c.args.z st c.args.n c.args.room e (omega (arith, c.if-n-wires.false)) (omega (arith, operands_count c.args.z st e, c.count.ensures, c.if-room-count.false))

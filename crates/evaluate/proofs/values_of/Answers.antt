@@ -19,7 +19,7 @@ operand_value-v-requires c = let y = part_ready c.args.old.now c.args.new.now c.
 pub loop-i-preserved : goal.loop-i-preserved
 loop-i-preserved c = (
   omega arith,
-  c.put.auto.0 ∙ c.loop-i.invariant.1,
+  c.put.auto.out ∙ c.loop-i.invariant.1,
   c.put.ensures ∙ ap (λ (t : List ℕ). set t (c.args.at + c.loop-i.i) c.operand_value-v.result) c.loop-i.invariant.2
       ∙ values_step c.args.old.now c.args.new.now c.args.words.now c.args.hs.now c.loop-i.i (omega arith) c.args.out.now c.args.at c.operand_value-v.result c.operand_value-v.ensures,
 )

@@ -1,7 +1,6 @@
 -- What is to be found is said of the uses and the terms that are left; a sum over the slots commits at once. Assumes nothing.
 use Prim.Native.Nat.{ℕ, ◌-◌, ◌≤◌}
 use mathlib.Core.Path.{◌≡◌, refl, sym, ap, ◌∙◌, ap₂}
-use mathlib.Core.Logic.{⊎_elim}
 use mathlib.Core.List.{map}
 use mathlib.Core.Bool.{false}
 use native.Mathlib.Omega.{arith}
@@ -19,6 +18,7 @@ use Rattle.commit_set.proofs.Joining.{none-join, join_step}
 use Rattle.commit_set.proofs.Searching.{one_more, all_done, left_at}
 use Rattle.commit_set.proofs.Seeking.{enter, enter_many, pass, hit, leave, leave_many, shift_at_lem, shifts_length}
 use Rattle.commit_set.proofs.search.decide.Goals as goal
+use Rattle.commit_set.proofs.search.decide.Goals.{else-out-test, then-out-test+then-loop-j-test+then-slots-len}
 
 pub out-init : goal.out-init
 out-init c = (omega arith, refl, refl, refl, none-join _, omega arith)
@@ -27,7 +27,7 @@ pub bounds-uses-h : goal.bounds-uses-h
 bounds-uses-h c = omega (arith, c.requires.2.inside, c.out.invariant.0)
 
 pub loop-j-init : goal.loop-j-init
-loop-j-init c = 
+loop-j-init c =
     let e = ap (map (context_of (state_at c.args.decisions.now))) (listed_step c.args.uses.now c.args.first c.out.h c.requires.2 c.out-test.true (omega (arith, c.out.invariant.0))) in
     (omega arith, c.out.invariant.1, enter e (shifts_of (map term_of c.args.ts.now)) c.args.slots _ c.out.invariant.2, enter_many e (shifts_of (map term_of c.args.ts.now)) c.out.many _ c.out.invariant.3)
 
@@ -62,22 +62,22 @@ out-preserved c = let u = get_or c.args.uses.now (c.out.h - 1) 0 in
     )
 
 pub conclude-requires : goal.conclude-requires
-conclude-requires c = 
-    (c.requires.0, ⊎_elim (λ w. omega (arith, w.4, c.out.invariant.0, c.requires.1)) (λ w. omega (arith, w.15, c.out.invariant.0, c.requires.1, w.0.taken)) c.out-test.branch)
+conclude-requires c =
+    (c.requires.0, elim c.out-test.branch [ else-out-test w ↦ omega (arith, w.n-is, c.out.invariant.0, c.requires.1) | then-out-test+then-loop-j-test+then-slots-len w ↦ omega (arith, w.n-is, c.out.invariant.0, c.requires.1, w.out-test.true) ])
 
 pub returns : goal.returns
-returns c = 
+returns c =
     let ss = shifts_of (map term_of c.args.ts.now) in
     let all = map (context_of (state_at c.args.decisions.now)) (listed c.args.first c.args.uses.now c.args.first) in
-    c.conclude.ensures ∙ ⊎_elim
-    (λ w. rw (w.1, w.2, w.3, w.4) (all_done c.args.slots all (map (context_of (state_at c.args.decisions.now)) (listed c.out.h c.args.uses.now c.out.h)) ss c.out.over c.out.many c.out.joined (length c.args.ts.now) c.out.n
-    (ap (map (context_of (state_at c.args.decisions.now))) (listed_end c.args.uses.now c.out.h (omega (arith, w.0.left)))) (sym (shifts_length c.args.ts.now)) c.out.invariant.1 c.out.invariant.2 c.out.invariant.3 c.out.invariant.4 c.out.invariant.5))
-    (λ w.
-    let u = get_or c.args.uses.now (c.out.h - 1) 0 in
-    let x : CommitSetCx = context_of (state_at c.args.decisions.now) (use_at u) in
-    let l = w.5 in
-    let t = shift_at (term_of (get_or c.args.ts.now l.j 0)).inner in
-    let p : w.9.result ≡ (plus x.shifts t).len = w.9.ensures ∙ ap₂ (λ (r : ShiftSummary) (n : ℕ). (plus r (shift_at n)).len) (ap (λ (y : CommitSetCx). y.shifts) w.2.ensures) w.8.ensures in
-    left_at c.args.slots all ss c.out-test.over c.out-test.many c.out-test.joined (length c.args.ts.now) c.out-test.n w.12
-    (hit x ss l.j t (shift_at_lem c.args.ts.now l.j w.6.taken) p c.args.slots _ _ w.11.taken l.inv.2))
-    c.out-test.branch
+    c.conclude.ensures ∙ elim c.out-test.branch [
+      | else-out-test w ↦
+          rw (w.over-is, w.many-is, w.joined-is, w.n-is) (all_done c.args.slots all (map (context_of (state_at c.args.decisions.now)) (listed c.out.h c.args.uses.now c.out.h)) ss c.out.over c.out.many c.out.joined (length c.args.ts.now) c.out.n
+          (ap (map (context_of (state_at c.args.decisions.now))) (listed_end c.args.uses.now c.out.h (omega (arith, w.out-test.false)))) (sym (shifts_length c.args.ts.now)) c.out.invariant.1 c.out.invariant.2 c.out.invariant.3 c.out.invariant.4 c.out.invariant.5)
+      | then-out-test+then-loop-j-test+then-slots-len w ↦
+          let u = get_or c.args.uses.now (c.out.h - 1) 0 in
+          let x : CommitSetCx = context_of (state_at c.args.decisions.now) (use_at u) in
+          let t = shift_at (term_of (get_or c.args.ts.now w.loop-j.j 0)).inner in
+          let p : w.len_with-len.result ≡ (plus x.shifts t).len = w.len_with-len.ensures ∙ ap₂ (λ (r : ShiftSummary) (n : ℕ). (plus r (shift_at n)).len) (ap (λ (y : CommitSetCx). y.shifts) w.context_of-cx.ensures) w.inner.ensures in
+          left_at c.args.slots all ss c.out-test.over c.out-test.many c.out-test.joined (length c.args.ts.now) c.out-test.n w.over-is
+          (hit x ss w.loop-j.j t (shift_at_lem c.args.ts.now w.loop-j.j w.loop-j-test.true) p c.args.slots _ _ w.if-slots-len.true w.loop-j.invariant.2)
+    ]

@@ -11,5 +11,5 @@ pub returns-then-n-eq0 : goal.returns-then-n-eq0
 returns-then-n-eq0 c = ap (λ (r : ShiftSummary). r.len) (still c.args.path (shift_at c.args.n) c.if-n-eq0.true)
 
 pub returns : goal.returns
-returns c = 
+returns c =
     ap (λ (r : ShiftSummary). r.len) (c.with-sum.ensures ∙ ap (λ (x : Shift). plus c.args.path x) c.shift_at.ensures)

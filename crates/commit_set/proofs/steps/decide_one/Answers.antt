@@ -17,20 +17,17 @@ operand_terms-ts-requires c = c.requires.stands
 pub bounds-first-i : goal.bounds-first-i
 bounds-first-i c = c.requires.list
 
-pub overflow_cast-h : goal.overflow_cast-h
-overflow_cast-h c = omega (arith, c.shared_slice_known-7-1.given c.args.d.0)
-
 pub decide-decision-requires : goal.decide-decision-requires
-decide-decision-requires c = let h : Held = held c.before.args.old.now c.before.args.new.now c.before.args.rhss.now c.before.args.first.now c.before.args.uses.now in
-    (omega (arith, terms_length c.before.args.slots h c.before.args.decisions.now c.operand-terms.result.now c.before.args.d.0 c.operand-terms.ensures, c.before.requires.few_terms), c.before.requires.few_uses, c.before.requires.linked)
+decide-decision-requires c = let h : Held = held c.args.old.now c.args.new.now c.args.rhss.now c.args.first.now c.args.uses.now in
+    (omega (arith, terms_length c.args.slots h c.args.decisions.now c.operand_terms-ts.result.now c.args.d.0 c.operand_terms-ts.ensures, c.requires.few_terms), c.requires.few_uses, c.requires.linked)
 
 pub number-requires : goal.number-requires
-number-requires c = let h : Held = held c.before.args.old.now c.before.args.new.now c.before.args.rhss.now c.before.args.first.now c.before.args.uses.now in
-    subst Packs (sym (c.decide-decision.ensures ∙ decided_is c.before.args.slots h c.before.args.decisions.now c.operand-terms.result.now c.before.args.d.0 c.operand-terms.ensures)) c.before.requires.packs
+number-requires c = let h : Held = held c.args.old.now c.args.new.now c.args.rhss.now c.args.first.now c.args.uses.now in
+    subst Packs (sym (c.decide-decision.ensures ∙ decided_is c.args.slots h c.args.decisions.now c.operand_terms-ts.result.now c.args.d.0 c.operand_terms-ts.ensures)) c.requires.packs
 
 pub bounds-decisions-i : goal.bounds-decisions-i
-bounds-decisions-i c = c.before.requires.place
+bounds-decisions-i c = c.requires.place
 
 pub returns : goal.returns
-returns c = let h : Held = held c.before.args.old.now c.before.args.new.now c.before.args.rhss.now c.before.args.first.now c.before.args.uses.now in
-    ap (λ (v : ℕ). set c.before.args.decisions.now c.before.args.d.0 v) (c.number.ensures ∙ ap decision_number (c.decide-decision.ensures ∙ decided_is c.before.args.slots h c.before.args.decisions.now c.operand-terms.result.now c.before.args.d.0 c.operand-terms.ensures))
+returns c = let h : Held = held c.args.old.now c.args.new.now c.args.rhss.now c.args.first.now c.args.uses.now in
+    ap (λ (v : ℕ). set c.args.decisions.now c.args.d.0 v) (c.number.ensures ∙ ap decision_number (c.decide-decision.ensures ∙ decided_is c.args.slots h c.args.decisions.now c.operand_terms-ts.result.now c.args.d.0 c.operand_terms-ts.ensures))
