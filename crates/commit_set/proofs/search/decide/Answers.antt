@@ -2,7 +2,6 @@
 use Prim.Native.Nat.{ℕ, ◌-◌, ◌≤◌}
 use mathlib.Core.Path.{◌≡◌, refl, sym, ap, ◌∙◌, ap₂}
 use mathlib.Core.List.{map}
-use mathlib.Core.Bool.{false}
 use native.Mathlib.Omega.{arith}
 use lib.ListN.{length, get_or}
 use Rattle.legraph.proofs.Listing.{listed_step, listed_end}

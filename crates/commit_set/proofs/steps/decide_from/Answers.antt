@@ -1,7 +1,7 @@
 -- The store with the definitions that are left decided is the whole. Assumes nothing.
 use mathlib.Core.Path.{refl, sym, ap, ◌∙◌, subst}
 use mathlib.Core.List.{List}
-use Prim.Native.Nat.{ℕ, ◌+◌, ◌-◌}
+use Prim.Native.Nat.{ℕ, ◌+◌}
 use lib.ListN.{drop}
 use Rattle.commit_set.specs.Steps.{Held, held, decided_from, Ready}
 use Rattle.commit_set.proofs.Stepping.{from_step, from_end, ready_here, ready_next}
