@@ -8,14 +8,13 @@ pub loop-left-init : goal.loop-left-init
 loop-left-init c = (refl, omega arith)
 
 pub loop-left-preserved : goal.loop-left-preserved
-loop-left-preserved c = 
-    (
-      c.loop-left.invariant.0 ∙ sets_entries c.args.s.now c.loop-left.store c.loop-left.q c.loop-left.left c.loop-left.a c.loop-left-test.true
-          ∙ rw (c.put_operands-q.ensures.1.1, c.put_operands-q.ensures.0, c.start_of-b.ensures.0, c.arity_of-k.ensures.0, c.byte-tag.ensures.0, c.num.ensures.0),
-      omega (arith, c, c.num.ensures.1, c.arity_of-k.ensures.1, c.put_operands-q.ensures.1.0, c.put_operands-q.auto),
-    )
+loop-left-preserved c = (
+  c.loop-left.invariant.0 ∙ sets_entries c.args.s.now c.loop-left.store c.loop-left.q c.loop-left.left c.loop-left.a c.loop-left-test.true
+      ∙ rw (c.put_operands-q.ensures.1.1, c.put_operands-q.ensures.0, c.start_of-b.ensures.0, c.arity_of-k.ensures.0, c.byte-tag.ensures.0, c.num.ensures.0),
+  omega (arith, c, c.num.ensures.1, c.arity_of-k.ensures.1, c.put_operands-q.ensures.1.0, c.put_operands-q.auto),
+)
 
 pub returns : goal.returns
-returns c = 
+returns c =
     let done : c.loop-left.left ≡ 0 = omega arith in
     sym (c.loop-left.invariant.0 ∙ rw (done, sets_no_entries c.args.s.now c.loop-left.store c.loop-left.q c.loop-left.a))

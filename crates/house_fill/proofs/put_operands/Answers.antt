@@ -10,17 +10,16 @@ pub loop-left-init : goal.loop-left-init
 loop-left-init c = (refl, (refl, omega arith))
 
 pub loop-left-preserved : goal.loop-left-preserved
-loop-left-preserved c = 
-    (
-      c.loop-left.invariant.0 ∙ sets_operands c.args.s.now c.loop-left.store c.loop-left.q c.loop-left.left c.loop-left.a c.loop-left-test.true ∙ rw (c.put_terms.ensures, c.num-n.ensures.0),
-      (
-        rw c.num-n.ensures.0 (omega (arith, sum_step c.args.s.now c.loop-left.a c.loop-left.left c.loop-left-test.true, c)),
-        omega (arith, c, c.num-n.ensures.1, c.put_terms.auto),
-      ),
-    )
+loop-left-preserved c = (
+  c.loop-left.invariant.0 ∙ sets_operands c.args.s.now c.loop-left.store c.loop-left.q c.loop-left.left c.loop-left.a c.loop-left-test.true ∙ rw (c.put_terms.ensures, c.num-n.ensures.0),
+  (
+    rw c.num-n.ensures.0 (omega (arith, sum_step c.args.s.now c.loop-left.a c.loop-left.left c.loop-left-test.true, c)),
+    omega (arith, c, c.num-n.ensures.1, c.put_terms.auto),
+  ),
+)
 
 pub returns : goal.returns
-returns c = 
+returns c =
     let done : c.loop-left.left ≡ 0 = omega arith in (
       omega (arith, ap (λ (k : ℕ). operands_terms c.args.s.now k c.loop-left.a) done, sum-none c.args.s.now c.loop-left.a, c),
       (omega arith, sym (c.loop-left.invariant.0 ∙ rw (done, sets_no_operands c.args.s.now c.loop-left.store c.loop-left.q c.loop-left.a))),

@@ -8,14 +8,13 @@ pub loop-left-init : goal.loop-left-init
 loop-left-init c = (refl, (refl, (refl, refl)))
 
 pub loop-left-preserved : goal.loop-left-preserved
-loop-left-preserved c = 
-    (
-      c.loop-left.invariant.0 ∙ sets_terms c.args.s.now c.loop-left.store c.loop-left.q c.loop-left.left c.loop-left.a c.loop-left-test.true
-          ∙ rw (c.put.ensures, c.term_at.ensures),
-      omega (arith, c, c.put.auto),
-    )
+loop-left-preserved c = (
+  c.loop-left.invariant.0 ∙ sets_terms c.args.s.now c.loop-left.store c.loop-left.q c.loop-left.left c.loop-left.a c.loop-left-test.true
+      ∙ rw (c.put.ensures, c.term_at.ensures),
+  omega (arith, c, c.put.auto),
+)
 
 pub returns : goal.returns
-returns c = 
+returns c =
     let done : c.loop-left.left ≡ 0 = omega arith in
     sym (c.loop-left.invariant.0 ∙ rw (done, sets_no_terms c.args.s.now c.loop-left.store c.loop-left.q c.loop-left.a))

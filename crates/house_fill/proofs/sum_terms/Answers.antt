@@ -10,10 +10,10 @@ pub loop-left-init : goal.loop-left-init
 loop-left-init c = omega arith
 
 pub loop-left-preserved : goal.loop-left-preserved
-loop-left-preserved c = 
+loop-left-preserved c =
     (rw c.num-n.ensures.0 (omega (arith, sum_step c.args.s.now c.loop-left.a c.loop-left.left c.loop-left-test.true)), omega arith)
 
 pub returns : goal.returns
-returns c = 
+returns c =
     let done : c.loop-left.left ≡ 0 = omega arith in
     (omega (arith, ap (λ (k : ℕ). operands_terms c.args.s.now k c.loop-left.a) done, sum-none c.args.s.now c.loop-left.a), omega arith)

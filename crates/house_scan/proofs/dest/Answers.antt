@@ -13,13 +13,13 @@ returns-then-end-at c = (simp (eq-eqb _ _ c.if-tag-eq-LINEAR.true, lt-ltb _ _ c.
 
 pub returns-then-wires-num : goal.returns-then-wires-num
 unfolding part_of destination_fault operands_start
-returns-then-wires-num c = 
+returns-then-wires-num c =
     let h : c.args.wires ≤ u16_at c.args.s.now c.args.at = omega arith in
     (simp (eq-eqb _ _ c.if-tag-eq-LINEAR.true, le-ltb _ _ c.if-end-at.false, le-ltb _ _ h), tt)
 
 pub returns-then-tag-eq-LINEAR : goal.returns-then-tag-eq-LINEAR
 unfolding part_of destination_fault operands_start
-returns-then-tag-eq-LINEAR c = 
+returns-then-tag-eq-LINEAR c =
     let h : u16_at c.args.s.now c.args.at < c.args.wires = omega arith in
     (simp (eq-eqb _ _ c.if-tag-eq-LINEAR.true, le-ltb _ _ c.if-end-at.false, lt-ltb _ _ h), omega arith)
 

@@ -13,12 +13,12 @@ pub one_field-requires : goal.one_field-requires
 one_field-requires c = (c.loop-a.invariant.small, c.loop-a.invariant.inside)
 
 pub returns-in-Stop : goal.returns-in-Stop
-returns-in-Stop c = 
+returns-in-Stop c =
     stands_stop c.loop-a.invariant _ (sym c.one_field.ensures.0 ∙ c.in-Stop.is)
 
 pub loop-a-smaller : goal.loop-a-smaller
 loop-a-smaller c = omega (arith, onward_go _ _ c.in-Go.is c.one_field.ensures.1)
 
 pub loop-a-preserved : goal.loop-a-preserved
-loop-a-preserved c = 
+loop-a-preserved c =
     stands_go c.loop-a.invariant _ _ (sym c.one_field.ensures.0 ∙ c.in-Go.is) (onward_go _ _ c.in-Go.is c.one_field.ensures.1)

@@ -22,12 +22,12 @@ returns-then-high-tag c = (simp (le-ltb _ _ c.if-s-at.false, le-ltb _ _ (rw c.by
 
 pub returns-then-s-end : goal.returns-then-s-end
 unfolding head_of head_fault
-returns-then-s-end c = 
+returns-then-s-end c =
     let e : length c.args.s.now < c.args.at + 3 + u16_at c.args.s.now (c.args.at + 1) = omega arith in
     (simp (le-ltb _ _ c.if-s-at.false, le-ltb _ _ (rw c.byte-tag.ensures.0 at c.if-tag-low.false), le-ltb _ _ (rw c.byte-tag.ensures.0 at c.if-high-tag.false), lt-ltb _ _ e), tt)
 
 pub returns : goal.returns
 unfolding head_of head_fault
-returns c = 
+returns c =
     let e : c.args.at + 3 + u16_at c.args.s.now (c.args.at + 1) ≤ length c.args.s.now = omega arith in
     (simp (le-ltb _ _ c.if-s-at.false, le-ltb _ _ (rw c.byte-tag.ensures.0 at c.if-tag-low.false), le-ltb _ _ (rw c.byte-tag.ensures.0 at c.if-high-tag.false), le-ltb _ _ e) (cc), omega arith)

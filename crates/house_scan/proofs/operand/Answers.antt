@@ -7,16 +7,16 @@ use Rattle.house_scan.proofs.operand.Goals as goal
 
 pub returns-then-end-at : goal.returns-then-end-at
 unfolding part_of
-returns-then-end-at c = 
+returns-then-end-at c =
     (rw (operand_short c.args.s.now c.args.wires c.args.end c.args.at (omega arith)), tt)
 
 pub returns-then-end-at-2 : goal.returns-then-end-at-2
 unfolding part_of
-returns-then-end-at-2 c = 
+returns-then-end-at-2 c =
     (rw (operand_over c.args.s.now c.args.wires c.args.end c.args.at (omega arith) (omega arith)), tt)
 
 pub returns : goal.returns
 returns c = (
-      cc (operand_in c.args.s.now c.args.wires c.args.end c.args.at (omega arith) (omega arith)),
-      within_of _ _ _ _ c.args.at c.args.end c.terms.ensures (omega arith) (omega arith),
-    )
+  cc (operand_in c.args.s.now c.args.wires c.args.end c.args.at (omega arith) (omega arith)),
+  within_of _ _ _ _ c.args.at c.args.end c.terms.ensures (omega arith) (omega arith),
+)

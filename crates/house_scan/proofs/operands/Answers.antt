@@ -10,19 +10,18 @@ pub loop-left-init : goal.loop-left-init
 loop-left-init c = (refl, (refl, omega arith))
 
 pub overflow_add-sum : goal.overflow_add-sum
-overflow_add-sum c = 
+overflow_add-sum c =
     omega (arith, within_fine _ _ c.in-Fine.is c.operand.ensures.1)
 
 pub returns-in-Bad : goal.returns-in-Bad
-returns-in-Bad c = 
-    (
-      part_bad _ _ _ _ _ _ _ _ _ (sym c.operand.ensures.0 ∙ c.in-Bad.is)
-          (c.loop-left.invariant.0 ∙ operands_step c.args.s.now c.args.wires c.args.end c.loop-left.p c.loop-left.left c.loop-left-test.true),
-      tt,
-    )
+returns-in-Bad c = (
+  part_bad _ _ _ _ _ _ _ _ _ (sym c.operand.ensures.0 ∙ c.in-Bad.is)
+      (c.loop-left.invariant.0 ∙ operands_step c.args.s.now c.args.wires c.args.end c.loop-left.p c.loop-left.left c.loop-left-test.true),
+  tt,
+)
 
 pub loop-left-preserved : goal.loop-left-preserved
-loop-left-preserved c = 
+loop-left-preserved c =
     let fine = part_fine _ _ _ _ _ _ (sym c.operand.ensures.0 ∙ c.in-Fine.is) in (
       c.loop-left.invariant.0 ∙ operands_step c.args.s.now c.args.wires c.args.end c.loop-left.p c.loop-left.left c.loop-left-test.true ∙ rw (fine.fault, fine.next_is),
       (
@@ -35,7 +34,7 @@ loop-left-preserved c =
     )
 
 pub returns : goal.returns
-returns c = 
+returns c =
     let done : c.loop-left.left ≡ 0 = omega arith in (
       part_done _ _ _ _ _ _
           (c.loop-left.invariant.0 ∙ rw (done, operands_none c.args.s.now c.args.wires c.args.end c.loop-left.p))

@@ -11,12 +11,12 @@ pub loop-left-init : goal.loop-left-init
 loop-left-init c = (refl, omega arith)
 
 pub returns-in-Bad : goal.returns-in-Bad
-returns-in-Bad c = 
+returns-in-Bad c =
     part_bad _ _ _ _ _ _ _ _ _ (sym c.term.ensures ∙ c.in-Bad.is)
     (c.loop-left.invariant.0 ∙ terms_step c.args.s.now c.args.wires c.loop-left.p c.loop-left.left c.loop-left-test.true)
 
 pub loop-left-preserved : goal.loop-left-preserved
-loop-left-preserved c = 
+loop-left-preserved c =
     let fine = part_fine _ _ _ _ _ _ (sym c.term.ensures ∙ c.in-Fine.is) in (
       c.loop-left.invariant.0 ∙ terms_step c.args.s.now c.args.wires c.loop-left.p c.loop-left.left c.loop-left-test.true
           ∙ rw (fine.fault, fine.next_is),
@@ -24,7 +24,7 @@ loop-left-preserved c =
     )
 
 pub returns : goal.returns
-returns c = 
+returns c =
     let done : c.loop-left.left ≡ 0 = omega arith in
     part_done _ _ _ _ _ _
     (c.loop-left.invariant.0 ∙ ap (λ (k : ℕ). first_fault (term_fault c.args.wires) (terms_at c.args.s.now k c.loop-left.p)) done ∙ terms_none c.args.s.now c.args.wires c.loop-left.p)

@@ -13,11 +13,11 @@ pub loop-left-init : goal.loop-left-init
 loop-left-init c = omega arith
 
 pub loop-left-preserved : goal.loop-left-preserved
-loop-left-preserved c = 
+loop-left-preserved c =
     let e : c.from_number-o.result.len ≡ length_of (get_or c.args.hs.now c.loop-left.a 0) = ap (λ (o : WireOperand). o.len) c.from_number-o.ensures in
     omega (arith, c, size_step c.args.hs.now c.loop-left.left c.loop-left.a c.loop-left-test.true (omega (arith, c)), e)
 
 pub returns : goal.returns
-returns c = 
+returns c =
     let done : c.loop-left.left ≡ 0 = omega arith in
     omega (arith, c, ap (λ (k : ℕ). handles_size (take k (drop c.loop-left.a c.args.hs.now))) done, size_none (drop c.loop-left.a c.args.hs.now))

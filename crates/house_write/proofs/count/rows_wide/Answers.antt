@@ -13,7 +13,7 @@ pub operands-requires : goal.operands-requires
 operands-requires c = omega (arith, c, c.requires, mul_back c.args.k c.loop-left.left c.loop-left-test.true)
 
 pub returns-then-operands-gt-MAX_PAYLOAD : goal.returns-then-operands-gt-MAX_PAYLOAD
-returns-then-operands-gt-MAX_PAYLOAD c = 
+returns-then-operands-gt-MAX_PAYLOAD c =
     sym (c.loop-left.invariant.0 ∙ rows_stop c.args.k c.loop-left.left c.loop-left.a c.args.hs.now c.loop-left-test.true (omega (arith, c.operands.ensures.0, c.if-operands-gt-MAX_PAYLOAD.true)))
 
 pub loop-left-preserved : goal.loop-left-preserved
@@ -23,6 +23,6 @@ loop-left-preserved c = (
 )
 
 pub returns : goal.returns
-returns c = 
+returns c =
     let done : c.loop-left.left ≡ 0 = omega arith in
     sym (c.loop-left.invariant.0 ∙ rw (done, rows_none c.args.k (drop c.loop-left.a c.args.hs.now)))

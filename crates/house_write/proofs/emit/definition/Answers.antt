@@ -11,12 +11,12 @@ use Rattle.house_write.proofs.Storing.{operand_bytes_lem, sets_definition}
 use Rattle.house_write.proofs.emit.definition.Goals as goal
 
 pub head-requires : goal.head-requires
-head-requires c = 
+head-requires c =
     let n : c.from_number-o.result.len ≡ length_of c.args.h = ap (λ (o : WireOperand). o.len) c.from_number-o.ensures in
     omega (arith, n, c.requires)
 
 pub returns : goal.returns
-returns c = 
+returns c =
     let n : c.from_number-o.result.len ≡ length_of c.args.h = ap (λ (o : WireOperand). o.len) c.from_number-o.ensures in
     let f = operand_of c.args.old.now c.args.new.now c.args.h in
     let e : 2 + length (operand_bytes f) ≡ 4 + 6 * c.from_number-o.result.len = omega (arith, n, operand_bytes_lem c.args.old.now c.args.new.now c.args.h c.requires.0.stands) in (

@@ -18,13 +18,13 @@ pub overflow_cast-dst : goal.overflow_cast-dst
 overflow_cast-dst c = omega (arith, c.shared_slice_known-in-loop-i-1.given c.loop-i.i)
 
 pub definition-q-requires : goal.definition-q-requires
-definition-q-requires c = 
+definition-q-requires c =
     let y = all_first (rw (part_step c.args.rhss.now c.args.n c.loop-i.i 0 c.loop-i-test.true c.requires.n_bound.1.1.0) at c.loop-i.invariant.1.1.0) in
     let k = definitions_narrow (operand_of c.args.old.now c.args.new.now) c.args.dsts.now c.args.rhss.now c.args.n c.loop-i.i c.loop-i-test.true c.requires.n_bound.1.0 c.requires.n_bound.1.1.0 c.loop-i.invariant.1.1.1.0 in
     (y.0, (omega (arith, c.shared_slice_known-in-loop-i-1.given c.loop-i.i), (k.0, omega (arith, c, c.requires))))
 
 pub loop-i-preserved : goal.loop-i-preserved
-loop-i-preserved c = 
+loop-i-preserved c =
     let f = operand_of c.args.old.now c.args.new.now in
     let h = get_or c.args.rhss.now c.loop-i.i 0 in
     let d : Definition = record { dst = get_or c.args.dsts.now c.loop-i.i 0; rhs = f h } in
@@ -41,9 +41,8 @@ loop-i-preserved c =
     )
 
 pub returns : goal.returns
-returns c = 
-    let f = operand_of c.args.old.now c.args.new.now in
-    (
+returns c =
+    let f = operand_of c.args.old.now c.args.new.now in (
       omega (arith, c, no_definitions_size f c.args.dsts.now c.args.rhss.now c.args.n c.loop-i.i c.loop-i-test.false c.requires.n_bound.1.0),
       (omega (arith, c), sym (c.loop-i.invariant.0 ∙ sets_no_definitions f c.args.dsts.now c.args.rhss.now c.args.n c.loop-i.i c.loop-i-test.false c.requires.n_bound.1.0 c.loop-i.out c.loop-i.q)),
     )

@@ -18,6 +18,6 @@ unfolding file_of system_of
 returns c =
     let s = stores c.args.old.now c.args.new.now c.args.ands.now c.args.imuls.now c.args.bmuls.now c.args.zeros.now c.args.dsts.now c.args.rhss.now in
     let es = entries_of (system_of c.args.z s) in (
-  omega (arith, c.lists-p.ensures.0, file_ends c.args.z.wires es),
-  c.head-2.ensures ∙ rw (c.lists-p.ensures.1.1, c.put16.ensures, c.head.ensures) (sym (sets_file c.args.out.now c.args.z.wires _ es c.lists-p.ensures.0)),
-)
+      omega (arith, c.lists-p.ensures.0, file_ends c.args.z.wires es),
+      c.head-2.ensures ∙ rw (c.lists-p.ensures.1.1, c.put16.ensures, c.head.ensures) (sym (sets_file c.args.out.now c.args.z.wires _ es c.lists-p.ensures.0)),
+    )

@@ -57,8 +57,7 @@ returns c =
     let i = map (row_entry 3) (rows_of f 4 c.args.z.imuls c.args.imuls.now) in
     let b = map (row_entry 4) (rows_of f 6 c.args.z.bmuls c.args.bmuls.now) in
     let o = map (row_entry 5) (rows_of f 1 c.args.z.zeros c.args.zeros.now) in
-    let d = map linear_entry (definitions_of f (take c.args.z.linears c.args.dsts.now) (take c.args.z.linears c.args.rhss.now)) in
-    (
+    let d = map linear_entry (definitions_of f (take c.args.z.linears c.args.dsts.now) (take c.args.z.linears c.args.rhss.now)) in (
       c.definitions.ensures.0 ∙ lists_size a i b o d c.args.p _ _ _ _ c.rows-a.ensures.0 c.rows-b.ensures.0 c.rows-c.ensures.0 c.rows-d.ensures.0,
       (
         omega (arith, k, c.requires.1.1, c.rows-a.ensures.1.0, c.rows-b.ensures.1.0, c.rows-c.ensures.1.0, c.rows-d.ensures.1.0, c.definitions.ensures.1.0),

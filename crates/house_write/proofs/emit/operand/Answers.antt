@@ -7,7 +7,7 @@ use Rattle.house_write.proofs.Storing.{terms_length}
 use Rattle.house_write.proofs.emit.operand.Goals as goal
 
 pub counted-requires : goal.counted-requires
-counted-requires c = 
+counted-requires c =
     (rw c.operand_terms.ensures c.requires.0.short, omega (arith, ap length c.operand_terms.ensures, terms_length c.args.old.now c.args.new.now c.args.h c.requires.0.stands, c.requires.1))
 
 pub returns : goal.returns

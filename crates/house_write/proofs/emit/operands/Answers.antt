@@ -15,7 +15,7 @@ pub loop-left-init : goal.loop-left-init
 loop-left-init c = (refl, (refl, (c.requires.all.0, (c.requires.all.1, (refl, refl)))))
 
 pub operand-q-requires : goal.operand-q-requires
-operand-q-requires c = 
+operand-q-requires c =
     let fit : c.loop-left.a + c.loop-left.left ≤ length c.args.hs.now = omega (arith, c, c.requires) in
     let y = all_first (rw (take_step c.args.hs.now c.loop-left.left c.loop-left.a c.loop-left-test.true fit) at c.loop-left.invariant.1.1.0) in
     let e = size_step c.args.hs.now c.loop-left.left c.loop-left.a c.loop-left-test.true fit in
@@ -23,7 +23,7 @@ operand-q-requires c =
     (y.0, (k, omega (arith, c, c.requires)))
 
 pub loop-left-preserved : goal.loop-left-preserved
-loop-left-preserved c = 
+loop-left-preserved c =
     let h = get_or c.args.hs.now c.loop-left.a 0 in
     let fit : c.loop-left.a + c.loop-left.left ≤ length c.args.hs.now = omega (arith, c, c.requires) in
     let y = all_first (rw (take_step c.args.hs.now c.loop-left.left c.loop-left.a c.loop-left-test.true fit) at c.loop-left.invariant.1.1.0) in
@@ -34,7 +34,7 @@ loop-left-preserved c =
     )
 
 pub returns : goal.returns
-returns c = 
+returns c =
     let done : c.loop-left.left ≡ 0 = omega arith in
     let hs = drop c.loop-left.a c.args.hs.now in (
       omega (arith, c, ap (λ (k : ℕ). handles_size (take k hs)) done, size_none hs),

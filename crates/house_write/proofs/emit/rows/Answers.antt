@@ -17,13 +17,13 @@ pub loop-left-init : goal.loop-left-init
 loop-left-init c = (refl, (refl, (c.requires.all.0, (c.requires.all.1, omega arith))))
 
 pub row-q-requires : goal.row-q-requires
-row-q-requires c = 
+row-q-requires c =
     let y = all_left (Ready c.args.old.now c.args.new.now) (take c.args.k (drop c.loop-left.a c.args.hs.now)) _ (rw (rows_apart c.args.k c.loop-left.left c.loop-left.a c.args.hs.now c.loop-left-test.true) at c.loop-left.invariant.1.1.0) in
     let w = rows_narrow c.args.k c.loop-left.left c.loop-left.a c.args.hs.now c.loop-left-test.true c.loop-left.invariant.1.1.1.0 in
     record { tag_bound = (c.requires.tag_bound.0, (c.requires.tag_bound.1.0, omega (arith, c, c.requires, mul_back c.args.k c.loop-left.left c.loop-left-test.true))); all = (y, w.0) }
 
 pub loop-left-preserved : goal.loop-left-preserved
-loop-left-preserved c = 
+loop-left-preserved c =
     let here = take c.args.k (drop c.loop-left.a c.args.hs.now) in
     let y = rw (rows_apart c.args.k c.loop-left.left c.loop-left.a c.args.hs.now c.loop-left-test.true) at c.loop-left.invariant.1.1.0 in
     let w = rows_narrow c.args.k c.loop-left.left c.loop-left.a c.args.hs.now c.loop-left-test.true c.loop-left.invariant.1.1.1.0 in
@@ -40,7 +40,7 @@ loop-left-preserved c =
     )
 
 pub returns : goal.returns
-returns c = 
+returns c =
     let done : c.loop-left.left ≡ 0 = omega arith in
     let f = operand_of c.args.old.now c.args.new.now in
     let hs = drop c.loop-left.a c.args.hs.now in (

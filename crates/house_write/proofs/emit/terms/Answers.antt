@@ -18,5 +18,5 @@ loop-i-preserved c = (
 )
 
 pub returns : goal.returns
-returns c = 
+returns c =
     sym (c.loop-i.invariant.0 ∙ sets_no_terms c.loop-i.out c.args.ts.now c.loop-i.q c.loop-i.i c.loop-i-test.false)
