@@ -28,9 +28,6 @@ count_all-requires c =
     let l : Lent = lent c.args.old.now c.args.new.now c.args.ands.now c.args.imuls.now c.args.bmuls.now c.args.zeros.now c.args.dsts.now c.args.rhss.now c.args.flags.now in
     counts_asks c.args.z l c.args.decisions.now c.requires.ready c.args.table.now c.args.reach.now c.args.out.now c.args.list.now c.args.count c.requires.table_value c.requires.reach_in c.requires.holds c.requires.flags_value c.patch_definitions-l.result c.patch_definitions-l.ensures.stranded_value.0 c.patch_definitions-l.ensures.stranded_value.1
 
-pub shape_of-new : goal.shape_of-new
-shape_of-new c = c.extend.auto.0
-
 pub returns : goal.returns
 returns c =
     let l : Lent = lent c.args.old.now c.args.new.now c.args.ands.now c.args.imuls.now c.args.bmuls.now c.args.zeros.now c.args.dsts.now c.args.rhss.now c.args.flags.now in
