@@ -4,4 +4,4 @@ use mathlib.Core.Path.{refl}
 use Rattle.report.proofs.outcome.read_and_fuse.Goals as goal
 
 pub returns : goal.returns
-returns c = comes_from (record { reads = c.read.ensures; new_same = refl; flags_same = refl }) c.fuse_read.ensures
+returns c = comes_from (record { reads = c.read-read.ensures; new_same = refl; flags_same = refl }) c.fuse_read.ensures
