@@ -53,7 +53,7 @@ fn reload(defs: &mut [Definition], dsts: &[u16], rhss: &[u64], n: usize)
     }
 }
 
-// Arrays to unload to. Calls make them: the functions that lend them are proved by hand, and cite a contract for each.
+// Arrays to unload to. Calls make them, so that the functions that lend them cite a contract for each.
 fn no_dsts() -> [u16; lower::MAX_DEFINITIONS]
     ensures { result ≡ replicate MAX_DEFINITIONS 0 }
 {
