@@ -4,13 +4,16 @@
 //   fuse [1|2] [committed]     slots, 2 if not given
 #![tactic(auto)]
 
-ghost use Rattle.std.specs.Prelude.{length};
+ghost use Rattle.std.specs.Prelude.{◌≤◌, length};
 ghost use Rattle.fuse.specs.Printed.{Covers};
 
 use asked::Asked;
 use house_write::Written;
-use libc::{STDERR_FILENO, STDIN_FILENO, STDOUT_FILENO};
 use report::FuseFile;
+use std::env::{Env, FillError};
+use std::io;
+use std::io::{Cursor, Read, Write};
+use std::str;
 
 mod asked;
 
@@ -20,88 +23,139 @@ const MAX_READ: usize = 262145;
 // More than the lines of 4,096 wires take.
 const MAX_LINES: usize = 86016;
 
-fn print(text: &[u8]) {
-    if io::write_all(STDOUT_FILENO, text) {
-        return;
-    }
-    os::fail(b"fuse: standard output");
+// Writes a line to standard error: what failed, a colon and the system's words for the error.
+fn fail(rt: &impl Eprint, what: &str, error: &io::Error) {
+    let mut text = Cursor::new([0u8; 128]);
+    let _ = write!(text, "{error}");
+    let n = (text.position() as usize).min(128);
+    let bytes = text.into_inner();
+    let words = str::from_utf8(&bytes[..n]).unwrap_or("");
+    let words = match words.split_once(" (os error ") {
+        Some((words, _)) => words,
+        None => words,
+    };
+    let _ = eprintln!(rt; "{what}: {words}");
 }
 
-fn refused(number: u8) {
+fn print(rt: HostRuntime, text: &[u8]) {
+    if let Err(error) = rt.stdout().write_all(text) {
+        fail(&rt, "fuse: standard output", &error);
+    }
+}
+
+fn refused(rt: HostRuntime, number: u8) {
     let mut line = [0u8; 64];
     let Written::Done { length } = text::refused_line(number, &mut line) else {
         return;
     };
-    io::write_all(STDERR_FILENO, &line[0..length]);
+    let _ = rt.stderr().write_all(&line[0..length]);
 }
 
-fn refused_at(number: u8, at: usize) {
+fn refused_at(rt: HostRuntime, number: u8, at: usize) {
     let mut line = [0u8; 64];
     let Written::Done { length } = text::refused_at_line(number, at, &mut line) else {
         return;
     };
-    io::write_all(STDERR_FILENO, &line[0..length]);
+    let _ = rt.stderr().write_all(&line[0..length]);
 }
 
-fn print_committed(flags: &[u8]) {
+fn print_committed(rt: HostRuntime, flags: &[u8]) {
     let mut lines = [0u8; MAX_LINES];
     match text::committed_lines(flags, &mut lines) {
-        Written::Refused { number } => refused(number),
-        Written::Done { length } => print(&lines[0..length]),
+        Written::Refused { number } => refused(rt, number),
+        Written::Done { length } => print(rt, &lines[0..length]),
     }
 }
 
-fn print_answer(answer: FuseFile, out: &[u8], flags: &[u8], is_committed: bool)
+fn print_answer(rt: HostRuntime, answer: FuseFile, out: &[u8], flags: &[u8], is_committed: bool)
     requires { Covers answer (length out.now) (length flags.now) }
 {
     match answer {
-        FuseFile::Refused { number } => refused(number),
-        FuseFile::Unread { number, at } => refused_at(number, at),
+        FuseFile::Refused { number } => refused(rt, number),
+        FuseFile::Unread { number, at } => refused_at(rt, number, at),
         FuseFile::Done { length, wires } => {
             if is_committed {
-                print_committed(&flags[0..wires]);
+                print_committed(rt, &flags[0..wires]);
             } else {
-                print(&out[0..length]);
+                print(rt, &out[0..length]);
             }
         }
     }
 }
 
-fn fuse(input: &[u8], slots: u64, is_committed: bool) {
+fn fuse(rt: HostRuntime, input: &[u8], slots: u64, is_committed: bool) {
     let mut out = [0u8; 262144];
     let mut flags = [0u8; 4096];
     let answer = report::fuse_file(input, slots, &mut out, &mut flags);
-    print_answer(answer, &out, &flags, is_committed);
+    print_answer(rt, answer, &out, &flags, is_committed);
 }
 
-// Whether reading stopped at an error: at the end a further read answers 0.
-fn is_cut() -> bool {
+// Reads until `buf` is full, the input ends or a read fails, and returns how many bytes it put at the start of `buf`.
+fn read_full<R: Read>(reader: &mut R, buf: &mut [u8]) -> usize
+    ensures { result ≤ length buf.new }
+{
+    let mut done = 0;
+    while done < buf.len() {
+        let Ok(n) = reader.read(&mut buf[done..]) else {
+            break;
+        };
+        if n == 0 {
+            break;
+        }
+        done += n;
+    }
+    done
+}
+
+// The error at which reading stopped, if it did: at the end a further read answers 0.
+fn cut_by<R: Read>(reader: &mut R) -> Option<io::Error> {
     let mut one = [0u8; 1];
-    libc::read(STDIN_FILENO, &mut one) < 0
+    reader.read(&mut one).err()
 }
 
-fn run(slots: u64, is_committed: bool) {
+fn run(rt: HostRuntime, slots: u64, is_committed: bool) {
+    let mut stdin = rt.stdin();
     let mut input = [0u8; MAX_READ];
-    let n = io::read_full(STDIN_FILENO, &mut input);
+    let n = read_full(&mut stdin, &mut input);
     if n < MAX_READ {
-        if is_cut() {
-            os::fail(b"fuse: standard input");
+        if let Some(error) = cut_by(&mut stdin) {
+            fail(&rt, "fuse: standard input", &error);
             return;
         }
     }
-    fuse(&input[0..n], slots, is_committed);
+    fuse(rt, &input[0..n], slots, is_committed);
 }
 
-fn main() {
+// The word `i`, the program's name being the first, at the start of `buf`: its length, or 0 where it is missing or longer than `buf`.
+fn word(env: &impl Env, i: usize, buf: &mut [u8]) -> usize
+    ensures { result ≤ length buf.new }
+{
+    env.arg(i, buf).unwrap_or(0)
+}
+
+fn is_given(env: &impl Env, i: usize) -> bool {
+    !matches!(env.arg(i, &mut []), Err(FillError::NotPresent))
+}
+
+// How many words there are, with the program's name, up to 4.
+fn word_count(env: &impl Env) -> usize {
+    let mut n = 0;
+    while n < 4 && is_given(env, n) {
+        n += 1;
+    }
+    n
+}
+
+fn main(rt: HostRuntime) {
     let mut first = [0u8; 16];
     let mut second = [0u8; 16];
-    let n = os::arg(1, &mut first);
-    let m = os::arg(2, &mut second);
-    match asked::of_words(os::arg_count(), &first[0..n], &second[0..m]) {
-        Asked::File(slots) => run(slots, false),
-        Asked::Committed(slots) => run(slots, true),
+    let n = word(&rt, 1, &mut first);
+    let m = word(&rt, 2, &mut second);
+    match asked::of_words(word_count(&rt), &first[0..n], &second[0..m]) {
+        Asked::File(slots) => run(rt, slots, false),
+        Asked::Committed(slots) => run(rt, slots, true),
         Asked::Usage => {
-            io::write_all(STDERR_FILENO, b"usage: fuse [1|2] [committed]\n");
+            let _ = eprintln!(rt; "usage: fuse [1|2] [committed]");
         }
     }
 }

@@ -1,31 +1,66 @@
 // Reads a house file from standard input, and prints what fusing it comes to on one line: `refused N`, or `ok` and nine counts.
 #![tactic(auto)]
 
+ghost use Rattle.std.specs.Prelude.{◌≤◌, length};
+
 use house_write::Written;
-use libc::{STDIN_FILENO, STDOUT_FILENO};
+use std::io;
+use std::io::{Cursor, Read, Write};
+use std::str;
 
 // One more than `report` takes: a longer file is told from one that is as long as it may be.
 const MAX_READ: usize = 65537;
 
-fn print(line: &[u8]) {
-    if io::write_all(STDOUT_FILENO, line) {
-        return;
+// Writes a line to standard error: what failed, a colon and the system's words for the error.
+fn fail(rt: &impl Eprint, what: &str, error: &io::Error) {
+    let mut text = Cursor::new([0u8; 128]);
+    let _ = write!(text, "{error}");
+    let n = (text.position() as usize).min(128);
+    let bytes = text.into_inner();
+    let words = str::from_utf8(&bytes[..n]).unwrap_or("");
+    let words = match words.split_once(" (os error ") {
+        Some((words, _)) => words,
+        None => words,
+    };
+    let _ = eprintln!(rt; "{what}: {words}");
+}
+
+fn print(rt: &(impl Print + Eprint), line: &[u8]) {
+    if let Err(error) = rt.write_all(line) {
+        fail(rt, "fusereport: standard output", &error);
     }
-    os::fail(b"fusereport: standard output");
 }
 
-// Whether reading stopped at an error: at the end a further read answers 0.
-fn is_cut() -> bool {
+// Reads until `buf` is full, the input ends or a read fails, and returns how many bytes it put at the start of `buf`.
+fn read_full<R: Read>(reader: &mut R, buf: &mut [u8]) -> usize
+    ensures { result ≤ length buf.new }
+{
+    let mut done = 0;
+    while done < buf.len() {
+        let Ok(n) = reader.read(&mut buf[done..]) else {
+            break;
+        };
+        if n == 0 {
+            break;
+        }
+        done += n;
+    }
+    done
+}
+
+// The error at which reading stopped, if it did: at the end a further read answers 0.
+fn cut_by<R: Read>(reader: &mut R) -> Option<io::Error> {
     let mut one = [0u8; 1];
-    libc::read(STDIN_FILENO, &mut one) < 0
+    reader.read(&mut one).err()
 }
 
-fn main() {
+fn main(rt: HostRuntime) {
+    let mut stdin = rt.stdin();
     let mut input = [0u8; MAX_READ];
-    let n = io::read_full(STDIN_FILENO, &mut input);
+    let n = read_full(&mut stdin, &mut input);
     if n < MAX_READ {
-        if is_cut() {
-            os::fail(b"fusereport: standard input");
+        if let Some(error) = cut_by(&mut stdin) {
+            fail(&rt, "fusereport: standard input", &error);
         }
     }
     let mut line = [0u8; 512];
@@ -33,5 +68,5 @@ fn main() {
     let Written::Done { length } = answer else {
         return;
     };
-    print(&line[0..length]);
+    print(&rt, &line[0..length]);
 }

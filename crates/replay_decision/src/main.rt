@@ -3,13 +3,13 @@
 // committed wires, a digest of all flags and of the decisions' numbers; and of further calls how many were answered as they have to be.
 #![tactic(auto)]
 
-ghost use Rattle.std.specs.Prelude.{◌≡◌, ◌+◌, ◌^◌, ◌<◌, ◌≤◌, [], length, slice_index};
+ghost use Rattle.std.specs.Prelude.{◌≡◌, ◌+◌, ◌^◌, ◌<◌, ◌≤◌, [], IfOk, length, slice_index};
 ghost use Rattle.lower.specs.Stores.{stores};
 ghost use Rattle.replay_decision.specs.Replay.{number_at, vector_at, part_of, same_of, marked_by, flags_of, equal_places, count_from, mixed, digest_of, untouched_from, vector_counted, check_counted, refused_right, decided_right, judged_flags, judged, wrong_slots, Answers, AnswersIn, SlotsChecked, RoomChecked, FurtherChecked, SystemReplayed, ReadReplayed, VectorReplayed, ReplayedAll};
 
 use house_file::Read;
-use libc::{STDIN_FILENO, STDOUT_FILENO};
 use lower::Sizes;
+use std::io;
 
 const MAX_INPUT: usize = 262144;
 
@@ -618,24 +618,29 @@ fn replay(input: &[u8]) -> Tally
     t
 }
 
-fn print(label: &[u8], n: u64) {
-    io::write_all(STDOUT_FILENO, label);
-    io::print_decimal(STDOUT_FILENO, n);
+// Reads until `buf` is full or the input ends, and returns how many bytes it put at the start of `buf`.
+fn read_full<R: io::Read>(reader: &mut R, buf: &mut [u8]) -> io::Result<usize>
+    ensures { IfOk result (λ n. n ≤ length buf.new) }
+{
+    let mut done = 0;
+    while done < buf.len() {
+        let n = reader.read(&mut buf[done..])?;
+        if n == 0 {
+            break;
+        }
+        done += n;
+    }
+    Ok(done)
 }
 
-fn main() {
+fn main(rt: HostRuntime) -> io::Result<()> {
     let mut input = [0u8; MAX_INPUT];
-    let n = io::read_full(STDIN_FILENO, &mut input);
+    let n = read_full(&mut rt.stdin(), &mut input)?;
     if MAX_INPUT < n {
-        return;
+        return Ok(());
     }
     let t = replay(&input[0..n]);
-    print(b"vectors ", number(&input[0..n], 0) as u64);
-    print(b" right ", t.right);
-    print(b" wrong ", t.wrong);
-    print(b"\ncommitted ", t.committed);
-    print(b" digest ", t.digest);
-    print(b"\nchecks right ", t.passed);
-    print(b" wrong ", t.failed);
-    io::write_all(STDOUT_FILENO, b"\n");
+    println!(rt; "vectors {} right {} wrong {}", number(&input[0..n], 0), t.right, t.wrong)?;
+    println!(rt; "committed {} digest {}", t.committed, t.digest)?;
+    println!(rt; "checks right {} wrong {}", t.passed, t.failed)
 }

@@ -3,11 +3,12 @@
 // What is printed: how many checks were right and wrong, and a digest of all that was read.
 #![tactic(auto)]
 
-ghost use Rattle.std.specs.Prelude.{◌≡◌, ◌+◌, ◌^◌, ◌<◌, if◌then◌else◌, nat_eq};
+ghost use Rattle.std.specs.Prelude.{◌≡◌, ◌+◌, ◌^◌, ◌<◌, ◌≤◌, IfOk, length, if◌then◌else◌, nat_eq};
 ghost use Rattle.replay_house.specs.Replay.{number_at, expected_at, state_of, file_of_vector, vector_of, vectors_of};
 
-use libc::{STDIN_FILENO, STDOUT_FILENO};
 use pass::Seen;
+use std::io;
+use std::io::Read;
 use tally::Tally;
 
 mod limits;
@@ -104,26 +105,33 @@ fn vectors(input: &[u8], one: &mut [u8], two: &mut [u8]) -> Tally
     t
 }
 
-fn print(label: &[u8], n: u64) {
-    io::write_all(STDOUT_FILENO, label);
-    io::print_decimal(STDOUT_FILENO, n);
+// Reads until `buf` is full or the input ends, and returns how many bytes it put at the start of `buf`.
+fn read_full<R: Read>(reader: &mut R, buf: &mut [u8]) -> io::Result<usize>
+    ensures { IfOk result (λ n. n ≤ length buf.new) }
+{
+    let mut done = 0;
+    while done < buf.len() {
+        let n = reader.read(&mut buf[done..])?;
+        if n == 0 {
+            break;
+        }
+        done += n;
+    }
+    Ok(done)
 }
 
-fn replay(input: &[u8]) {
+fn replay(rt: &impl Print, input: &[u8]) -> io::Result<()> {
     let mut one = [0u8; 262144];
     let mut two = [0u8; 262144];
     let t = limits::limits(vectors(input, &mut one, &mut two), &mut one, &mut two);
-    print(b"right ", t.right);
-    print(b" wrong ", t.wrong);
-    print(b" digest ", t.digest);
-    io::write_all(STDOUT_FILENO, b"\n");
+    println!(rt; "right {} wrong {} digest {}", t.right, t.wrong, t.digest)
 }
 
-fn main() {
+fn main(rt: HostRuntime) -> io::Result<()> {
     let mut input = [0u8; 262144];
-    let n = io::read_full(STDIN_FILENO, &mut input);
+    let n = read_full(&mut rt.stdin(), &mut input)?;
     if 262144 < n {
-        return;
+        return Ok(());
     }
-    replay(&input[0..n]);
+    replay(&rt, &input[0..n])
 }

@@ -8,7 +8,7 @@
 --   after b n         the state after n pairs
 --
 -- Assumes nothing.
-use Rattle.std.specs.Prelude.{ℕ, zero, suc, ◌+◌, ◌-◌, ◌*◌, ◌/◌, ◌%◌, ◌^◌, cond, ◌&&◌, List, [], length, replicate, ◌==◌, nat_le, nat_lt, slice_index, slice_range, slice_set}
+use Rattle.std.specs.Prelude.{ℕ, zero, suc, ◌+◌, ◌*◌, ◌/◌, ◌%◌, ◌^◌, cond, ◌&&◌, List, [], length, replicate, ◌==◌, nat_le, nat_lt, slice_index, slice_range, slice_set}
 use Rattle.lower.specs.declared.Sizes.{Sizes}
 use Rattle.lower.specs.Stores.{Stores, stores}
 use Rattle.lower.specs.Faults.{fault_of}

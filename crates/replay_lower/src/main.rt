@@ -6,11 +6,12 @@
 // The destinations are an array of their own.
 #![tactic(auto)]
 
-ghost use Rattle.std.specs.Prelude.{◌≡◌, ◌/◌, ◌<◌, length, slice_index, slice_set};
+ghost use Rattle.std.specs.Prelude.{◌≡◌, ◌/◌, ◌<◌, ◌≤◌, IfOk, length, slice_index, slice_set};
 ghost use Rattle.replay_lower.specs.Replay.{word_at, part_of, store_at, sizes_at, checked_at, counted, state_of, step_of, after};
 
-use libc::{STDIN_FILENO, STDOUT_FILENO};
 use lower::Sizes;
+use std::io;
+use std::io::Read;
 
 #[derive(Clone, Copy)]
 struct Tally {
@@ -198,20 +199,27 @@ fn replay(input: &[u8]) -> Tally
     t
 }
 
-fn print(label: &[u8], n: u64) {
-    io::write_all(STDOUT_FILENO, label);
-    io::print_decimal(STDOUT_FILENO, n);
+// Reads until `buf` is full or the input ends, and returns how many bytes it put at the start of `buf`.
+fn read_full<R: Read>(reader: &mut R, buf: &mut [u8]) -> io::Result<usize>
+    ensures { IfOk result (λ n. n ≤ length buf.new) }
+{
+    let mut done = 0;
+    while done < buf.len() {
+        let n = reader.read(&mut buf[done..])?;
+        if n == 0 {
+            break;
+        }
+        done += n;
+    }
+    Ok(done)
 }
 
-fn main() {
+fn main(rt: HostRuntime) -> io::Result<()> {
     let mut input = [0u8; 262144];
-    let n = io::read_full(STDIN_FILENO, &mut input);
+    let n = read_full(&mut rt.stdin(), &mut input)?;
     if 262144 < n {
-        return;
+        return Ok(());
     }
     let t = replay(&input[0..n]);
-    print(b"right ", t.right);
-    print(b" wrong ", t.wrong);
-    print(b" digest ", t.digest);
-    io::write_all(STDOUT_FILENO, b"\n");
+    println!(rt; "right {} wrong {} digest {}", t.right, t.wrong, t.digest)
 }

@@ -4,11 +4,12 @@
 // all, how many definitions hold once filled back, and a digest of all files written.
 #![tactic(auto)]
 
-ghost use Rattle.std.specs.Prelude.{◌≡◌, ◌+◌, ◌^◌, ◌<◌, ◌≤◌, length};
+ghost use Rattle.std.specs.Prelude.{◌≡◌, ◌+◌, ◌^◌, ◌<◌, ◌≤◌, IfOk, length};
 ghost use Rattle.replay_records.specs.Replay.{number_at, vector_at, told_at, VectorReplayed, ReplayedAll};
 
 use judge::Told;
-use libc::{STDIN_FILENO, STDOUT_FILENO};
+use std::io;
+use std::io::Read;
 use tally::Tally;
 
 mod attempt;
@@ -103,25 +104,38 @@ fn replay(input: &[u8]) -> Tally
     t
 }
 
-fn print(label: &[u8], n: u64) {
-    io::write_all(STDOUT_FILENO, label);
-    io::print_decimal(STDOUT_FILENO, n);
-    io::write_all(STDOUT_FILENO, b"\n");
+// Reads until `buf` is full or the input ends, and returns how many bytes it put at the start of `buf`.
+fn read_full<R: Read>(reader: &mut R, buf: &mut [u8]) -> io::Result<usize>
+    ensures { IfOk result (λ n. n ≤ length buf.new) }
+{
+    let mut done = 0;
+    while done < buf.len() {
+        let n = reader.read(&mut buf[done..])?;
+        if n == 0 {
+            break;
+        }
+        done += n;
+    }
+    Ok(done)
 }
 
-fn main() {
+fn print(rt: &impl Print, label: &str, n: u64) -> io::Result<()> {
+    println!(rt; "{label}{n}")
+}
+
+fn main(rt: HostRuntime) -> io::Result<()> {
     let mut input = [0u8; MAX_INPUT];
-    let n = io::read_full(STDIN_FILENO, &mut input);
+    let n = read_full(&mut rt.stdin(), &mut input)?;
     if MAX_INPUT < n {
-        return;
+        return Ok(());
     }
     let t = replay(&input[0..n]);
-    print(b"vectors right ", t.right);
-    print(b"vectors wrong ", t.wrong);
-    print(b"gone ", t.gone);
-    print(b"stranded ", t.stranded);
-    print(b"committed ", t.committed);
-    print(b"terms written ", t.written);
-    print(b"definitions that hold ", t.holding);
-    print(b"digest ", t.digest);
+    print(&rt, "vectors right ", t.right)?;
+    print(&rt, "vectors wrong ", t.wrong)?;
+    print(&rt, "gone ", t.gone)?;
+    print(&rt, "stranded ", t.stranded)?;
+    print(&rt, "committed ", t.committed)?;
+    print(&rt, "terms written ", t.written)?;
+    print(&rt, "definitions that hold ", t.holding)?;
+    print(&rt, "digest ", t.digest)
 }

@@ -1,5 +1,5 @@
 -- Every shift that can be spelled, in each place where a call takes one: answered or refused with 4. Assumes nothing.
-use Rattle.std.specs.Prelude.{ℕ, ◌/◌, ◌%◌, List}
+use Rattle.std.specs.Prelude.{ℕ, ◌/◌, ◌%◌}
 use Rattle.word.specs.Answers.{Told, refused, refused_at, given, told}
 use Rattle.shift.specs.declared.Shift.{Shift}
 use Rattle.shift.specs.Shifts.{by, identity, variant_at}

@@ -11,9 +11,9 @@ ghost use Rattle.replay_shift.specs.Tallies.{over, churned, mixed, more, counted
 ghost use Rattle.replay_shift.specs.Replay.{of_composition, of_push, nth_valid, index_at, index_all, compose_at, compose_row, compose_all, push_at, third_of, push_pair, push_row, push_all, apply_at, apply_word, apply_edges, apply_next, apply_all};
 ghost use Rattle.replay_shift.specs.Refusals.{refusal_of, noted, noted_apply, noted_index, noted_compose, noted_push, noted_shift, noted_number, noted_all};
 
-use libc::STDOUT_FILENO;
 use operand::{PushInner, Pushed};
 use shift::{Composed, Composition, Found, Numbered, Shift, ShiftVariant};
+use std::io;
 use word::Shifted;
 
 // How often each case of an answer came, by the case's number, and the digest of the answers so far.
@@ -463,30 +463,26 @@ fn note_all() -> Tally
     sum
 }
 
-fn print(label: &[u8], n: u64) {
-    io::write_all(STDOUT_FILENO, label);
-    io::print_decimal(STDOUT_FILENO, n);
-}
-
-fn main() {
+fn main(rt: HostRuntime) -> io::Result<()> {
     let c = compose_all();
-    print(b"compose single ", c.first);
-    print(b" zero ", c.second);
-    print(b" pair ", c.third);
-    print(b" digest ", c.digest);
+    println!(rt;
+        "compose single {} zero {} pair {} digest {}",
+        c.first, c.second, c.third, c.digest
+    )?;
     let p = push_all();
-    print(b"\npush seq ", p.first);
-    print(b" zero ", p.second);
-    print(b" over ", p.third);
-    print(b" digest ", p.digest);
-    print(b"\napply digest ", apply_all());
+    println!(rt;
+        "push seq {} zero {} over {} digest {}",
+        p.first, p.second, p.third, p.digest
+    )?;
+    println!(rt; "apply digest {}", apply_all())?;
     let x = index_all();
-    print(b"\nindex valid ", x.first);
-    print(b" refused ", x.second);
-    print(b" digest ", x.digest);
+    println!(rt;
+        "index valid {} refused {} digest {}",
+        x.first, x.second, x.digest
+    )?;
     let n = note_all();
-    print(b"\nspelled answered ", n.first);
-    print(b" refused ", n.second);
-    print(b" other ", n.third);
-    io::write_all(STDOUT_FILENO, b"\n");
+    println!(rt;
+        "spelled answered {} refused {} other {}",
+        n.first, n.second, n.third
+    )
 }

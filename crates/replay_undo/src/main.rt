@@ -7,10 +7,11 @@
 // too short is refused and nothing written. What is printed: how many of each were so and how many not, and a digest of all values.
 #![tactic(auto)]
 
-ghost use Rattle.std.specs.Prelude.{◌≡◌, ◌+◌, ◌^◌, ◌<◌, ◌≤◌, length};
+ghost use Rattle.std.specs.Prelude.{◌≡◌, ◌+◌, ◌^◌, ◌<◌, ◌≤◌, IfOk, length};
 ghost use Rattle.replay_undo.specs.Replay.{number_at, vector_at, VectorReplayed, ReplayedAll};
 
-use libc::{STDIN_FILENO, STDOUT_FILENO};
+use std::io;
+use std::io::Read;
 use tally::Tally;
 
 mod attempt;
@@ -85,31 +86,44 @@ fn replay(input: &[u8]) -> Tally
     t
 }
 
-fn print(label: &[u8], n: u64) {
-    io::write_all(STDOUT_FILENO, label);
-    io::print_decimal(STDOUT_FILENO, n);
-    io::write_all(STDOUT_FILENO, b"\n");
+// Reads until `buf` is full or the input ends, and returns how many bytes it put at the start of `buf`.
+fn read_full<R: Read>(reader: &mut R, buf: &mut [u8]) -> io::Result<usize>
+    ensures { IfOk result (λ n. n ≤ length buf.new) }
+{
+    let mut done = 0;
+    while done < buf.len() {
+        let n = reader.read(&mut buf[done..])?;
+        if n == 0 {
+            break;
+        }
+        done += n;
+    }
+    Ok(done)
 }
 
-fn print_checks(t: Tally) {
-    print(b"words as they have to be ", t.returned);
-    print(b"words otherwise ", t.lost);
-    print(b"operand values equal ", t.equal);
-    print(b"operand values not equal ", t.unequal);
-    print(b"definitions that hold ", t.hold);
-    print(b"definitions that do not ", t.broken);
+fn print(rt: &impl Print, label: &str, n: u64) -> io::Result<()> {
+    println!(rt; "{label}{n}")
 }
 
-fn main() {
+fn print_checks(rt: &impl Print, t: Tally) -> io::Result<()> {
+    print(rt, "words as they have to be ", t.returned)?;
+    print(rt, "words otherwise ", t.lost)?;
+    print(rt, "operand values equal ", t.equal)?;
+    print(rt, "operand values not equal ", t.unequal)?;
+    print(rt, "definitions that hold ", t.hold)?;
+    print(rt, "definitions that do not ", t.broken)
+}
+
+fn main(rt: HostRuntime) -> io::Result<()> {
     let mut input = [0u8; MAX_INPUT];
-    let n = io::read_full(STDIN_FILENO, &mut input);
+    let n = read_full(&mut rt.stdin(), &mut input)?;
     if MAX_INPUT < n {
-        return;
+        return Ok(());
     }
     let t = replay(&input[0..n]);
-    print(b"systems fused ", t.systems);
-    print_checks(t);
-    print(b"refusals right ", t.right);
-    print(b"refusals wrong ", t.wrong);
-    print(b"digest ", t.digest);
+    print(&rt, "systems fused ", t.systems)?;
+    print_checks(&rt, t)?;
+    print(&rt, "refusals right ", t.right)?;
+    print(&rt, "refusals wrong ", t.wrong)?;
+    print(&rt, "digest ", t.digest)
 }

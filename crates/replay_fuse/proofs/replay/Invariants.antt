@@ -1,0 +1,9 @@
+use Rattle.replay_fuse.specs.Replay.{Replayed}
+use Rattle.std.proofs.Common.{◌-◌, length}
+use Rattle.replay_fuse.proofs.replay.Given as goal
+
+abbrev pub invariant-loop-at : goal.invariant-loop-at
+invariant-loop-at l = Replayed l.input l.at l.t
+
+abbrev pub decreases-loop-at : goal.decreases-loop-at
+decreases-loop-at l = length l.input - l.at

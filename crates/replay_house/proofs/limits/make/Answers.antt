@@ -1,0 +1,6 @@
+-- The stores are made, then written. Assumes nothing.
+use Rattle.replay_house.proofs.Passes.{make_is}
+use Rattle.replay_house.proofs.limits.make.Goals as goal
+
+pub returns : goal.returns
+returns c = make_is _ c.fill.ensures c.store.ensures c.by_answer.ensures

@@ -1,0 +1,12 @@
+-- As it is defined. Assumes nothing.
+use Rattle.std.proofs.Common.{eq-eqb, ne_eqb}
+use Rattle.replay_house.specs.Replay.{wire_made}
+use Rattle.replay_house.proofs.limits.wire_at.Goals as goal
+
+pub returns-then-wires-eq0 : goal.returns-then-wires-eq0
+unfolding wire_made
+returns-then-wires-eq0 c = rw (eq-eqb c.args.wires 0 c.if-wires-eq0.true)
+
+pub returns : goal.returns
+unfolding wire_made
+returns c = rw (ne_eqb c.args.wires 0 c.if-wires-eq0.false)

@@ -1,0 +1,10 @@
+use Rattle.std.proofs.Common.{◌-◌}
+use Rattle.replay_shift.specs.Replay.{nth_valid, compose_at}
+use Rattle.replay_shift.proofs.Over.{Upto}
+use Rattle.replay_shift.proofs.compose_row.Given as goal
+
+abbrev pub invariant-loop-k : goal.invariant-loop-k
+invariant-loop-k l = Upto (λ k t. compose_at t l.inner (nth_valid k)) 384 l.initial.sum l.k l.sum
+
+abbrev pub decreases-loop-k : goal.decreases-loop-k
+decreases-loop-k l = 384 - l.k

@@ -1,0 +1,16 @@
+-- One vector after the other. Assumes nothing.
+use Rattle.std.proofs.Common.{◌-◌, arith}
+use Rattle.replay_undo.proofs.Calls.{vector_first, vector_next}
+use Rattle.replay_undo.proofs.replay.Goals as goal
+
+pub loop-at-init : goal.loop-at-init
+loop-at-init c = vector_first _ _ c.nothing-t.ensures
+
+pub loop-at-smaller : goal.loop-at-smaller
+loop-at-smaller c = omega (arith, c.vector_at-v.ensures.at_lt_end)
+
+pub loop-at-preserved : goal.loop-at-preserved
+loop-at-preserved c = vector_next _ c.loop-at.at _ _ _ _ c.loop-at-test.true c.vector_at-v.ensures.value c.loop-at.invariant c.part.ensures c.replay_vector-t.ensures
+
+pub returns : goal.returns
+returns c = record { end = c.loop-at.at; past = omega arith; replayed = c.loop-at.invariant }
