@@ -6,7 +6,6 @@ use Prim.Native.Nat.{ℕ}
 use Rattle.word.specs.Answers.{given}
 use Rattle.shift.specs.Shifts.{valid_number}
 use Rattle.shift.proofs.Numbers.{number_there}
-use mathlib.Core.Path.{sym, ap, ◌∙◌}
 use borrow.Author.Tests.{lt-ltb, le-ltb}
 use Rattle.shift.proofs.Shift.from_index.Goals as goal
 
