@@ -2,7 +2,8 @@
 use Rattle.commit_set.proofs.Answers.{fault_memory, fault_slots, fault_definitions}
 use Rattle.lower.specs.Stores.{Stores, stores}
 use Rattle.lower.proofs.Checks.{memory_places, memory_wires}
-use mathlib.Core.Path.{sym, ◌∙◌}
+use mathlib.Core.Path.{◌≡◌, sym, ◌∙◌}
+use native.Mathlib.Omega.{arith}
 use Rattle.commit_set.proofs.check.Goals as goal
 
 pub returns-then-fault-ne0 : goal.returns-then-fault-ne0
@@ -23,4 +24,5 @@ check_definitions-requires c =
 pub returns : goal.returns
 returns c =
     let st : Stores = stores c.args.old.now c.args.new.now c.args.ands.now c.args.imuls.now c.args.bmuls.now c.args.zeros.now c.args.dsts.now c.args.rhss.now in
-    c.check_definitions.ensures ∙ fault_definitions c.args.slots c.args.z st (sym c.check-fault.ensures ∙ c.if-fault-ne0.false) (sym c.slots_fault-wrong.ensures ∙ c.if-wrong-ne0.false)
+    let none : c.slots_fault-wrong.result ≡ 0 = omega arith in
+    c.check_definitions.ensures ∙ fault_definitions c.args.slots c.args.z st (sym c.check-fault.ensures ∙ c.if-fault-ne0.false) (sym c.slots_fault-wrong.ensures ∙ none)
