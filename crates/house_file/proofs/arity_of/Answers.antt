@@ -1,5 +1,4 @@
 -- Each return is the number of operands of the tags that reach it. Assumes nothing.
-use Prim.Native.Nat.{◌-◌}
 use native.Mathlib.Omega.{arith}
 use borrow.Author.Tests.{eq-eqb, ne_eqb}
 use Rattle.house_file.specs.Format.{arity}

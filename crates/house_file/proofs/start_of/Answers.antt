@@ -1,5 +1,4 @@
 -- The destination of a Linear has two bytes; other payloads begin with their operands. Assumes nothing.
-use Prim.Native.Nat.{◌-◌}
 use native.Mathlib.Omega.{arith}
 use borrow.Author.Tests.{eq-eqb, ne_eqb}
 use Rattle.house_file.specs.Decoding.{operands_start}

@@ -1,6 +1,6 @@
 -- Only a Linear has a destination; each return is one test of it. Assumes nothing.
 use Rattle.house_scan.specs.Parts.{part_of}
-use Prim.Native.Nat.{◌-◌, ◌≤◌, ◌<◌}
+use Prim.Native.Nat.{◌≤◌, ◌<◌}
 use native.Mathlib.Omega.{arith}
 use borrow.Author.Tests.{lt-ltb, le-ltb, eq-eqb, ne_eqb}
 use Rattle.house_file.specs.Decoding.{u16_at, operands_start}

@@ -1,6 +1,5 @@
 -- What is left to read has the answer of the whole; each field has three bytes, so the reading ends. Assumes nothing.
 use mathlib.Core.Path.{refl, sym, ◌∙◌}
-use Prim.Native.Nat.{◌-◌}
 use native.Mathlib.Omega.{arith}
 use lib.ListN.{length}
 use Rattle.house_scan.proofs.Laws.{stands_stop, stands_go, onward_go}

@@ -1,5 +1,4 @@
 -- Each return is the first limit that is passed. Assumes nothing.
-use Prim.Native.Nat.{◌-◌}
 use native.Mathlib.Omega.{arith}
 use borrow.Author.Tests.{lt-ltb, le-ltb}
 use Rattle.house_file.specs.Reading.{full_fault}

@@ -1,6 +1,6 @@
 -- Three bytes, the tag, the payload's end: each return is the first test that fails. Assumes nothing.
 use Rattle.house_scan.specs.Parts.{head_of}
-use Prim.Native.Nat.{◌+◌, ◌-◌, ◌≤◌, ◌<◌}
+use Prim.Native.Nat.{◌+◌, ◌≤◌, ◌<◌}
 use native.Mathlib.Omega.{arith}
 use borrow.Author.Tests.{lt-ltb, le-ltb}
 use lib.ListN.{length}

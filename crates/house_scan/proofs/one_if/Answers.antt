@@ -1,5 +1,4 @@
 -- By cases of the test. Assumes nothing.
-use Prim.Native.Nat.{◌-◌}
 use native.Mathlib.Omega.{arith}
 use borrow.Author.Tests.{eq-eqb, ne_eqb}
 use Rattle.house_scan.proofs.one_if.Goals as goal

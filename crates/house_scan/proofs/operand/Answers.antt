@@ -1,6 +1,5 @@
 -- A count that does not fit is told before any term is looked at; else the fault is that of the terms. Assumes nothing.
 use Rattle.house_scan.specs.Parts.{part_of}
-use Prim.Native.Nat.{◌-◌}
 use native.Mathlib.Omega.{arith}
 use Rattle.house_scan.proofs.Laws.{operand_short, operand_over, operand_in, within_of}
 use Rattle.house_scan.proofs.operand.Goals as goal

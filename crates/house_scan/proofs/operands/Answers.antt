@@ -1,6 +1,6 @@
 -- What is left to look at has the fault of the whole; the offset and the terms met make up the rest. Assumes nothing.
 use mathlib.Core.Path.{◌≡◌, refl, sym, ap, ◌∙◌}
-use Prim.Native.Nat.{ℕ, ◌-◌}
+use Prim.Native.Nat.{ℕ}
 use native.Mathlib.Omega.{arith}
 use Rattle.house_scan.proofs.Laws.{part_bad, part_fine, part_done, within_fine, operands_step, operands_none, next_step, next_none, sum_step, sum-none}
 use Rattle.house_file.specs.Decoding.{operands_terms}

@@ -1,5 +1,5 @@
 use mathlib.Core.Path.{◌≡◌}
-use Prim.Native.Nat.{◌+◌, ◌*◌, ◌-◌, ◌≤◌}
+use Prim.Native.Nat.{◌+◌, ◌*◌, ◌≤◌}
 use Rattle.house_file.specs.Decoding.{operands_next_lem, operands_terms}
 use Rattle.house_file.specs.Reading.{operands_fault}
 use Rattle.house_scan.proofs.operands.Given as goal

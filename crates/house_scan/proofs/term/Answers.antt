@@ -1,7 +1,6 @@
 -- Wire, inner and outer shift are looked at in this order, and the first that fails is the fault. Assumes nothing.
 use Rattle.house_scan.specs.Parts.{part_of}
 use mathlib.Core.Path.{sym, ap, ◌∙◌}
-use Prim.Native.Nat.{◌-◌}
 use Rattle.shift.specs.Answers.{found}
 use native.Mathlib.Omega.{arith}
 use Rattle.house_scan.proofs.Laws.{term_wire, term_inner, term_outer, term_sound}

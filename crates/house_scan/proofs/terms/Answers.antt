@@ -1,6 +1,6 @@
 -- What is left to look at has the fault of the whole, and goes down by a term a turn. Assumes nothing.
 use mathlib.Core.Path.{◌≡◌, refl, sym, ap, ◌∙◌}
-use Prim.Native.Nat.{ℕ, ◌-◌}
+use Prim.Native.Nat.{ℕ}
 use native.Mathlib.Omega.{arith}
 use Rattle.house_scan.proofs.Laws.{part_bad, part_fine, part_done, terms_step, terms_none}
 use Rattle.lower.specs.Faults.{first_fault, term_fault}

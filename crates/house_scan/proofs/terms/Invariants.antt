@@ -1,5 +1,5 @@
 use mathlib.Core.Path.{◌≡◌}
-use Prim.Native.Nat.{◌+◌, ◌*◌, ◌-◌, ◌≤◌}
+use Prim.Native.Nat.{◌+◌, ◌*◌, ◌≤◌}
 use Rattle.lower.specs.Faults.{first_fault, term_fault}
 use Rattle.house_file.specs.Decoding.{terms_at}
 use Rattle.house_scan.proofs.terms.Given as goal

@@ -1,7 +1,6 @@
 -- One byte after the other. Assumes nothing.
 use Rattle.text.proofs.Putting.{puts_none, bytes_next, puts_all}
 use native.Mathlib.Omega.{arith}
-use Prim.Native.Nat.{◌-◌}
 use Rattle.text.proofs.put.Goals as goal
 
 pub loop-i-init : goal.loop-i-init

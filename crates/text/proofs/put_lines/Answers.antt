@@ -1,7 +1,6 @@
 -- One wire after the other. Assumes nothing.
 use Rattle.text.proofs.Putting.{lines_first, lines_step, lines_all}
 use native.Mathlib.Omega.{arith}
-use Prim.Native.Nat.{◌-◌}
 use Rattle.text.proofs.put_lines.Goals as goal
 
 pub loop-i-init : goal.loop-i-init

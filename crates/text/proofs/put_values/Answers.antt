@@ -1,7 +1,6 @@
 -- One value after the other. Assumes nothing.
 use Rattle.text.proofs.Putting.{values_first, values_step, values_all}
 use native.Mathlib.Omega.{arith}
-use Prim.Native.Nat.{◌-◌}
 use Rattle.text.proofs.put_values.Goals as goal
 
 pub loop-i-init : goal.loop-i-init

@@ -1,5 +1,5 @@
 use mathlib.Core.Path.{◌≡◌}
-use Prim.Native.Nat.{◌+◌, ◌*◌, ◌-◌, ◌≤◌}
+use Prim.Native.Nat.{◌+◌, ◌*◌, ◌≤◌}
 use lib.ListN.{take, drop}
 use Rattle.house_write.specs.Sizes.{handles_size}
 use Rattle.house_write.proofs.count.operands.Given as goal

@@ -1,6 +1,5 @@
 -- Some row is wide just when one of those that are left is. Assumes nothing.
 use mathlib.Core.Path.{◌≡◌, sym, ◌∙◌, refl}
-use Prim.Native.Nat.{◌-◌}
 use native.Mathlib.Omega.{arith}
 use lib.ListN.{drop}
 use Rattle.house_write.proofs.Counting.{mul_back, rows_stop, rows_go, rows_none}

@@ -1,5 +1,5 @@
 use mathlib.Core.Path.{◌≡◌}
-use Prim.Native.Nat.{◌+◌, ◌*◌, ◌-◌}
+use Prim.Native.Nat.{◌+◌, ◌*◌}
 use lib.ListN.{drop}
 use Rattle.house_write.specs.Sizes.{rows_wide}
 use Rattle.house_write.proofs.count.rows_wide.Given as goal

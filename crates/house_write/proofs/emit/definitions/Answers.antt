@@ -3,10 +3,9 @@ use Rattle.lower.specs.Model.{Definition}
 use Rattle.lower.proofs.Firsts.{part_step}
 use Rattle.house_write.proofs.Storing.{all_first, operand_bytes_lem, definition_size, definitions_size, definitions_narrow, sets_definitions, sets_no_definitions, no_definitions_size}
 use mathlib.Core.Path.{◌≡◌, sym, ◌∙◌, refl}
-use Prim.Native.Nat.{◌+◌, ◌-◌}
+use Prim.Native.Nat.{◌+◌}
 use native.Mathlib.Omega.{arith}
 use lib.ListN.{length, get_or}
-use mathlib.Core.Bool.{false}
 use Rattle.house_file.specs.Format.{linear_entry, entry_bytes}
 use Rattle.operand.specs.Numbers.{operand_of}
 use Rattle.house_write.proofs.emit.definitions.Goals as goal

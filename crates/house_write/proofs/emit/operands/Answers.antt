@@ -3,7 +3,7 @@ use Rattle.lower.specs.Faults.{length_of}
 use Rattle.house_write.proofs.Counting.{take_step, size_step, size_none}
 use Rattle.house_write.proofs.Storing.{all_first, operand_bytes_lem, sets_operands, sets_no_operands}
 use mathlib.Core.Path.{◌≡◌, sym, ap, ◌∙◌, refl}
-use Prim.Native.Nat.{ℕ, ◌+◌, ◌-◌, ◌≤◌, ◌<◌}
+use Prim.Native.Nat.{ℕ, ◌+◌, ◌≤◌, ◌<◌}
 use native.Mathlib.Omega.{arith}
 use lib.ListN.{length, take, drop, get_or}
 use Rattle.house_file.specs.Format.{operand_bytes}

@@ -1,7 +1,6 @@
 -- What is left to store, stored from where the walk stands, makes the bytes that are asked for. Assumes nothing.
 use Rattle.house_write.proofs.Storing.{sets_terms, sets_no_terms, all_at}
 use mathlib.Core.Path.{sym, ◌∙◌, refl}
-use Prim.Native.Nat.{◌-◌}
 use native.Mathlib.Omega.{arith}
 use Rattle.house_write.proofs.emit.terms.Goals as goal
 
