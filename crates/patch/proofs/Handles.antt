@@ -3,21 +3,20 @@ use mathlib.Core.Path.{◌≡◌, refl, sym, ap, ap₂, ◌∙◌, subst}
 use Prim.Native.Nat.{ℕ, zero, suc, ◌+◌, ◌*◌, ◌≤◌, ◌<◌}
 use native.Mathlib.Omega.{arith}
 use native.Mathlib.Nat.{mul-suc}
-use mathlib.Core.Bool.{Bool, true, false, cond, not, ◌&&◌}
+use mathlib.Core.Bool.{Bool, true, false, cond, not}
 use mathlib.Core.List.{List, [], ◌∷◌, ◌++◌, map, map-append, append_assoc, append-nil}
-use lib.Dec.{eqb}
 use lib.ListN.{length, take, drop, length-append, length-map, length-drop}
 use lib.Seq.{sets, take_at, drop_at, length-take-le, take-length}
 use Rattle.operand.specs.declared.WireOperand.{WireOperand}
 use Rattle.operand.specs.Numbers.{Term, Operand, term_of, term_number, operand_at, operand_number, operand_of}
 use Rattle.operand.proofs.Stored.{term_there, operand_there}
-use Rattle.lower.specs.Lists.{All, done, more, some_of, keep, joined}
+use Rattle.lower.specs.Lists.{All, done, more, keep, joined}
 use Rattle.lower.specs.Model.{Row, Definition, System, destinations}
 use Rattle.lower.specs.Stores.{chunks, rows_of, definitions_of}
 use Rattle.lower.proofs.Laws.{all_left, all_right, all_both, joined-map, chunks-length, chunks_flat, operand_kept, operand_written, sets_below, definitions_same}
 use Rattle.lower.proofs.Alls.{all_unjoin}
 use Rattle.patch.specs.Lists.{gather, up_to}
-use Rattle.patch.specs.Patch.{rhss_of, expand_operand, rebuilt, row_rebuilds, patch_rows, commits, commit_at, all_met, is_stranded, stranded, stays, rebuild, patched}
+use Rattle.patch.specs.Patch.{rhss_of, expand_operand, rebuilt, row_rebuilds, patch_rows, commits, commit_at, is_stranded, stranded, stays, rebuild, patched}
 use Rattle.patch.specs.Handles.{handles_from, keep_by, commits_from}
 use Rattle.patch.proofs.Parts.{all_each, all_keep, all_mapped, gather_append}
 use Rattle.patch.proofs.Counting.{length_parted}

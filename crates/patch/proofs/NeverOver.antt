@@ -23,7 +23,7 @@ use Rattle.commit_set.specs.Paths.{committed}
 use Rattle.commit_set.proofs.Members.{root_shifted, term_shifted}
 use Rattle.commit_set.proofs.Budget.{Held, held_root, held-committed, held-through, fold_within}
 use Rattle.commit_set.proofs.Valids.{fold_valid}
-use Rattle.patch.specs.Expansion.{under, folded, descend, DescendFits, BelowFits, expand_by, expand, FitsBy, Fits}
+use Rattle.patch.specs.Expansion.{folded, descend, DescendFits, BelowFits, expand_by, expand, FitsBy, Fits}
 use Rattle.patch.specs.Patch.{commit_set, inlined, depth, commits, rebuilt, row_rebuilds, rhss_of, rebuilds, NeverOver}
 use Rattle.patch.proofs.Parts.{all_keep, all_each, all_mapped, all_gather, all_members}
 use Rattle.patch.proofs.Chains.{inlined_defined}

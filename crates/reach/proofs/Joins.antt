@@ -1,6 +1,6 @@
 -- The or of a list of masks, and the word under a term's two shifts. Assumes nothing.
 use mathlib.Core.Path.{◌≡◌, sym, ap₂, ◌∙◌}
-use Prim.Native.Nat.{ℕ, ◌-◌, ◌^◌, ◌<◌}
+use Prim.Native.Nat.{ℕ, ◌^◌, ◌<◌}
 use native.Mathlib.Nat.{mod-eq_of_lt}
 use mathlib.Core.List.{List, [], ◌∷◌}
 use lib.Dec.{lit<}

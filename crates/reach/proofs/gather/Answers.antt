@@ -4,7 +4,6 @@ use Rattle.reach.specs.Steps.{mask_at_lem}
 use Rattle.lower.proofs.Firsts.{part_all}
 use lib.ListN.{get_or}
 use native.Mathlib.Omega.{arith}
-use Prim.Native.Nat.{◌-◌}
 use mathlib.Core.Path.{◌≡◌, refl}
 use Rattle.reach.proofs.gather.Goals as goal
 

@@ -25,5 +25,8 @@ gather-requires c = let st : Stores = stores c.args.old.now c.args.new.now c.arg
     (dsts_long c.args.z st c.requires.rhss_value c.args.decisions.now, c.requires.left_in_bounds.2, subst (λ (n : ℕ). All (λ (w : ℕ). w < n) (take c.args.z.linears c.args.dsts.now)) (sym (c.reach_from.auto.masks ∙ c.pull_rows.auto.masks ∙ length-replicate {A = ℕ} 4096 0)) (dsts_low c.args.z st c.requires.rhss_value c.args.decisions.now))
 
 pub returns : goal.returns
-returns c = let st : Stores = stores c.args.old.now c.args.new.now c.args.ands.now c.args.imuls.now c.args.bmuls.now c.args.zeros.now c.args.dsts.now c.args.rhss.now in let h : Held = held c.args.old.now c.args.new.now c.args.dsts.now c.args.rhss.now c.args.decisions.now in record { reach_in = reach_answer c.args.z st c.requires.rhss_value c.args.decisions.now c.requires.once (drop c.args.left c.args.order.now) c.requires.order c.requires.single _
-      (gather-same (c.reach_from.ensures ∙ ap (reach_from h (drop c.args.left c.args.order.now)) c.pull_rows.ensures) c.gather.ensures.gathered); filled = c.gather.ensures.filled }
+returns c = let st : Stores = stores c.args.old.now c.args.new.now c.args.ands.now c.args.imuls.now c.args.bmuls.now c.args.zeros.now c.args.dsts.now c.args.rhss.now in let h : Held = held c.args.old.now c.args.new.now c.args.dsts.now c.args.rhss.now c.args.decisions.now in record {
+  reach_in = reach_answer c.args.z st c.requires.rhss_value c.args.decisions.now c.requires.once (drop c.args.left c.args.order.now) c.requires.order c.requires.single _
+      (gather-same (c.reach_from.ensures ∙ ap (reach_from h (drop c.args.left c.args.order.now)) c.pull_rows.ensures) c.gather.ensures.gathered);
+  filled = c.gather.ensures.filled;
+}

@@ -7,12 +7,11 @@ use mathlib.Core.Bool.{false}
 use Rattle.operand.specs.Numbers.{Term}
 use native.Mathlib.Omega.{arith}
 use mathlib.Core.List.{[]}
-use Prim.Native.Nat.{◌-◌}
 use mathlib.Core.Path.{sym, ap, ◌∙◌}
 use Rattle.patch.proofs.build.build.Goals as goal
 
 pub build_commits-requires : goal.build_commits-requires
-build_commits-requires c = 
+build_commits-requires c =
     record { ready = c.requires.buildable.ready; commits_there = (c.requires.buildable.commits_there, (omega (arith, c.build_root_patches-roots.ensures.1), omega (arith, c.requires.out_len_bound)), c.requires.buildable.wires_few) }
 
 pub returns : goal.returns

@@ -9,7 +9,7 @@ use lib.ListN.{get_or}
 use mathlib.Core.List.{List, map}
 use native.Mathlib.Omega.{arith}
 use Rattle.lower.specs.Lists.{All, done, more}
-use Prim.Native.Nat.{ℕ, ◌-◌}
+use Prim.Native.Nat.{ℕ}
 use mathlib.Core.Path.{sym, ap, ◌∙◌, subst}
 use Rattle.patch.proofs.build.build_committed.Goals as goal
 

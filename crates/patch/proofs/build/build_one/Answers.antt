@@ -1,11 +1,11 @@
 -- The two ways of the definition, a place in the list or none. Assumes nothing.
 use Rattle.patch.proofs.Builds.{cursor_grows, build_full, build_room}
-use Rattle.patch.specs.Building.{Built, built_by, handle}
+use Rattle.patch.specs.Building.{Built, built_by}
 use Rattle.patch.specs.Spelling.{Source, source, spell}
 use Rattle.patch.specs.Steps.{Written}
 use Rattle.operand.specs.Numbers.{Term, Operand, operand_of}
 use native.Mathlib.Omega.{arith}
-use Prim.Native.Nat.{ℕ, ◌-◌}
+use Prim.Native.Nat.{ℕ}
 use Rattle.patch.proofs.build.build_one.Goals as goal
 
 pub returns-then-list-n : goal.returns-then-list-n

@@ -7,7 +7,7 @@ use Rattle.lower.proofs.Laws.{all_imp}
 use Rattle.lower.specs.Stores.{Stands}
 use Rattle.operand.specs.Numbers.{Term, Operand, operand_of}
 use mathlib.Core.List.{List, map}
-use Prim.Native.Nat.{ℕ, ◌-◌}
+use Prim.Native.Nat.{ℕ}
 use mathlib.Core.Path.{sym, ap, ◌∙◌}
 use Rattle.patch.proofs.build.build_root_patch.Goals as goal
 

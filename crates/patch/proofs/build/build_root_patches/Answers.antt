@@ -6,7 +6,6 @@ use Rattle.patch.specs.Steps.{Written}
 use Rattle.operand.specs.Numbers.{Term, Operand}
 use native.Mathlib.Omega.{arith}
 use mathlib.Core.List.{List}
-use Prim.Native.Nat.{◌-◌}
 use mathlib.Core.Path.{sym, ap, ◌∙◌}
 use Rattle.patch.proofs.build.build_root_patches.Goals as goal
 

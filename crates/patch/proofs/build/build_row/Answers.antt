@@ -8,7 +8,7 @@ use Rattle.operand.specs.Numbers.{Term, Operand, operand_of}
 use lib.ListN.{drop}
 use native.Mathlib.Omega.{arith}
 use mathlib.Core.List.{map}
-use Prim.Native.Nat.{ℕ, ◌+◌, ◌-◌}
+use Prim.Native.Nat.{ℕ, ◌+◌}
 use mathlib.Core.Path.{refl, sym, ap, ◌∙◌}
 use Rattle.patch.proofs.build.build_row.Goals as goal
 
@@ -16,7 +16,7 @@ pub loop-k-init : goal.loop-k-init
 loop-k-init c = (omega arith, refl, c.requires.all.1.0, refl, refl)
 
 pub build_one-cur-requires : goal.build_one-cur-requires
-build_one-cur-requires c = 
+build_one-cur-requires c =
     record { ready = c.requires.ready; rooted = (all_get (Rooted c.args.old.now c.args.new.now) c.args.row.now c.loop-k.k 0 c.requires.all.0 c.loop-k-test.true, (omega (arith, c.loop-k.invariant.1, c.loop-k.invariant.2), omega (arith, c.loop-k.invariant.1, c.requires.all.1.1))) }
 
 pub loop-k-preserved : goal.loop-k-preserved

@@ -20,7 +20,7 @@ pub slice_bounds-build_root_patch-end : goal.slice_bounds-build_root_patch-end
 slice_bounds-build_root_patch-end c = omega (arith, rows_room c.args.k c.loop-left.left c.loop-left.i c.args.hs.now c.loop-left-test.true c.loop-left.invariant.2)
 
 pub build_root_patch-cur-requires : goal.build_root_patch-cur-requires
-build_root_patch-cur-requires c = 
+build_root_patch-cur-requires c =
     record { ready = c.requires.ready; all = (rows_first c.args.k c.loop-left.left c.loop-left.i c.args.hs.now c.loop-left-test.true (Rooted c.args.old.now c.args.new.now) c.loop-left.invariant.3, (omega (arith, c.loop-left.invariant.0, c.loop-left.invariant.1), omega (arith, c.loop-left.invariant.0, c.requires.rows_there.1.1))) }
 
 pub loop-left-preserved : goal.loop-left-preserved

@@ -2,7 +2,7 @@ use Rattle.patch.specs.Building.{built_by, build_all, Rooted, rows_in_lem}
 use Rattle.patch.specs.Spelling.{source, spell}
 use Rattle.lower.specs.Lists.{All}
 use lib.ListN.{length, drop, take}
-use Prim.Native.Nat.{◌+◌, ◌-◌, ◌*◌, ◌≤◌}
+use Prim.Native.Nat.{◌+◌, ◌*◌, ◌≤◌}
 use mathlib.Core.Path.{◌≡◌}
 use Rattle.patch.proofs.build.build_rows.Given as goal
 

@@ -1,19 +1,19 @@
 -- A term goes below through its definition, whose chain is one shorter; what is passed over writes nothing, and each other way is one law of
 -- an entry, of whatever source the store was laid down for. Assumes nothing.
-use mathlib.Core.Path.{◌≡◌, refl, sym, ap, ◌∙◌, subst}
+use mathlib.Core.Path.{refl, sym, ap, ◌∙◌, subst}
 use mathlib.Core.List.{map}
 use native.Mathlib.Omega.{arith}
-use lib.ListN.{length, get_or, drop}
+use lib.ListN.{get_or, drop}
 use Rattle.operand.specs.Numbers.{Operand, term_of}
 use Rattle.shift.proofs.Numbers.{valid_at}
 use Rattle.legraph.proofs.Walks.{rhs_terms}
 use Rattle.legraph.specs.Walked.{rhs_in}
 use Rattle.patch.specs.Steps.{Written}
-use Rattle.patch.specs.Spelling.{Source, spelt_to, inner_of, outer_of, spell_under, spell, Sees, terms_in, reading, Opened}
+use Rattle.patch.specs.Spelling.{Source, spelt_to, inner_of, outer_of, spell_under, spell, Sees, terms_in, reading}
 use Rattle.patch.proofs.Spells.{to_full, under_full, under_step, under_end}
 use Rattle.patch.proofs.Folds.{over-low}
 use Rattle.patch.proofs.Entries.{entered_left, entered_opens, entered_valid, entered_nothing, entered_over, entered_sees, entered_stands, entered_goes, masks_length, entries_length, entered_at, passed_to}
-use Prim.Native.Nat.{ℕ, ◌+◌, ◌-◌, ◌*◌, ◌≤◌, ◌<◌}
+use Prim.Native.Nat.{ℕ, ◌+◌, ◌-◌}
 use Rattle.patch.proofs.expand.+expand_at_expand_below_expand_operand.Goals as goal
 
 pub expand_at-returns-then-out-n : goal.expand_at-returns-then-out-n
@@ -58,17 +58,25 @@ pub expand_below-expand_at-requires : goal.expand_below-expand_at-requires
 expand_below-expand_at-requires t c =
     let h = c.requires.enterable in
     let q : Source = reading h.rest c.args.alive.now in
-    let w : ℕ = c.wire-wire.result.0 in
-    (omega arith, (
+    let w : ℕ = c.wire-wire.result.0 in (
+      omega arith,
       (
-        entered_left q h.number c.args.e c.args.mask c.args.below h.entered w c.wire-wire.ensures c.if-e-lt4294967296.false,
-        record { rest = h.rest; opened = entered_opens q h.number c.args.e c.args.mask c.args.below h.entered w c.wire-wire.ensures c.if-e-lt4294967296.false },
+        (
+          entered_left q h.number c.args.e c.args.mask c.args.below h.entered w c.wire-wire.ensures c.if-e-lt4294967296.false,
+          record { rest = h.rest; opened = entered_opens q h.number c.args.e c.args.mask c.args.below h.entered w c.wire-wire.ensures c.if-e-lt4294967296.false },
+        ),
+        (
+          entered_valid q h.number c.args.e c.args.mask c.args.below h.entered c.inner-s.result c.inner-s.ensures,
+          (
+            (
+              entered_over q h.number c.args.e c.args.mask c.args.below h.entered c.inner-s.result c.inner-s.ensures c.args.over c.requires.over.0 c.requires.sees c.fold-f.result c.fold-f.ensures c.in-Under.x c.in-Under.is,
+              c.requires.over.1,
+            ),
+            entered_sees q h.number c.args.e c.args.mask c.args.below h.entered c.inner-s.result c.inner-s.ensures c.args.over c.requires.over.0 c.requires.sees c.fold-f.result c.fold-f.ensures c.in-Under.x c.in-Under.is,
+          ),
+        ),
       ),
-      (entered_valid q h.number c.args.e c.args.mask c.args.below h.entered c.inner-s.result c.inner-s.ensures, ((
-        entered_over q h.number c.args.e c.args.mask c.args.below h.entered c.inner-s.result c.inner-s.ensures c.args.over c.requires.over.0 c.requires.sees c.fold-f.result c.fold-f.ensures c.in-Under.x c.in-Under.is,
-        c.requires.over.1,
-      ), entered_sees q h.number c.args.e c.args.mask c.args.below h.entered c.inner-s.result c.inner-s.ensures c.args.over c.requires.over.0 c.requires.sees c.fold-f.result c.fold-f.ensures c.in-Under.x c.in-Under.is)),
-    ))
+    )
 
 pub expand_below-returns : goal.expand_below-returns
 expand_below-returns t c =
@@ -108,15 +116,17 @@ pub expand_operand-expand_below-cur-requires : goal.expand_operand-expand_below-
 expand_operand-expand_below-cur-requires t c =
     let h = c.requires.openable in
     let l = c.loop-k in
-    let b = c.loop-k-test.true in
-    (omega arith, (
-      record {
-        rest = h.rest;
-        number = get_or (terms_in h.rest c.args.d.0) l.k 0;
-        entered = entered_at (reading h.rest c.args.alive.now) c.args.d.0 c.args.below h.opened c.part-ms.result.now c.part-es.result.now c.part-ms.ensures c.part-es.ensures c.args.mask l.k b (l.invariant.2 b);
-      },
-      ((c.requires.over.0, omega (arith, l.invariant.1, l.invariant.3)), c.requires.sees),
-    ))
+    let b = c.loop-k-test.true in (
+      omega arith,
+      (
+        record {
+          rest = h.rest;
+          number = get_or (terms_in h.rest c.args.d.0) l.k 0;
+          entered = entered_at (reading h.rest c.args.alive.now) c.args.d.0 c.args.below h.opened c.part-ms.result.now c.part-es.result.now c.part-ms.ensures c.part-es.ensures c.args.mask l.k b (l.invariant.2 b);
+        },
+        ((c.requires.over.0, omega (arith, l.invariant.1, l.invariant.3)), c.requires.sees),
+      ),
+    )
 
 pub expand_operand-next_live-k-requires-in-loop-k : goal.expand_operand-next_live-k-requires-in-loop-k
 expand_operand-next_live-k-requires-in-loop-k t c =

@@ -4,7 +4,7 @@ use lib.Bits.{bit_and}
 use lib.ListN.{length, get_or, drop}
 use mathlib.Core.List.{map}
 use mathlib.Core.Path.{◌≡◌}
-use Prim.Native.Nat.{ℕ, ◌+◌, ◌-◌, ◌*◌, ◌≤◌, ◌<◌}
+use Prim.Native.Nat.{◌+◌, ◌-◌, ◌*◌, ◌≤◌, ◌<◌}
 use Rattle.patch.proofs.expand.+expand_at_expand_below_expand_operand.Given as goal
 
 abbrev pub decreases-expand_at : goal.decreases-expand_at

@@ -12,7 +12,7 @@ use native.Mathlib.Omega.{arith}
 use Rattle.patch.proofs.expand.fold.Goals as goal
 
 pub returns-then-s-eq0 : goal.returns-then-s-eq0
-returns-then-s-eq0 c = 
+returns-then-s-eq0 c =
     let o : (term_of c.args.over).outer % 64 ≡ 0 = omega (arith, c.outer-o.ensures, c.if-o-eq0.true) in
     let i : (term_of c.args.over).inner % 64 ≡ 0 = omega (arith, c.inner-i.ensures, c.if-i-eq0.true) in
     lone-none c.args.s c.if-s-eq0.true ∙ sym (ap folded_as (fold_lone (inner_of c.args.over) (outer_of c.args.over) (shift_at c.args.s) o i))
@@ -21,13 +21,13 @@ pub overflow_mul-result : goal.overflow_mul-result
 overflow_mul-result c = omega (arith, valid-low c.args.s c.requires.1)
 
 pub returns-then-i-eq0 : goal.returns-then-i-eq0
-returns-then-i-eq0 c = 
+returns-then-i-eq0 c =
     let o : (term_of c.args.over).outer % 64 ≡ 0 = omega (arith, c.outer-o.ensures, c.if-o-eq0.true) in
     let i : (term_of c.args.over).inner % 64 ≡ 0 = omega (arith, c.inner-i.ensures, c.if-i-eq0.true) in
     lone-some c.args.s c.requires.1 c.if-s-eq0.false ∙ sym (ap folded_as (fold_lone (inner_of c.args.over) (outer_of c.args.over) (shift_at c.args.s) o i))
 
 pub returns-then-s-eq0-2 : goal.returns-then-s-eq0-2
-returns-then-s-eq0-2 c = 
+returns-then-s-eq0-2 c =
     let o : (term_of c.args.over).outer % 64 ≡ 0 = omega (arith, c.outer-o.ensures, c.if-o-eq0.true) in
     let i : (term_of c.args.over).inner % 64 ≡ 0 → ⊥ = λ z. c.if-i-eq0.false (omega (arith, c.inner-i.ensures, z)) in
     ap (λ (x : ℕ). Under (65536 * x)) c.inner-i.ensures ∙ lone-some (term_of c.args.over).inner c.requires.0.1.0 i ∙ sym (ap folded_as (fold_kept (inner_of c.args.over) (outer_of c.args.over) (shift_at c.args.s) o c.if-s-eq0-2.true))
@@ -36,11 +36,11 @@ pub overflow_add-over : goal.overflow_add-over
 overflow_add-over c = omega (arith, over-low c.args.over c.requires.0, valid-low c.args.s c.requires.1)
 
 pub fold_three-requires : goal.fold_three-requires
-fold_three-requires c = 
+fold_three-requires c =
     let e = over-plus c.args.over c.args.s c.requires.0.0 (omega (arith, valid-low c.args.s c.requires.1)) in
     (ap (λ (t : Term). valid_number t.wire) e ∙ c.requires.1, (ap (λ (t : Term). valid_number t.inner) e ∙ c.requires.0.1.0, ap (λ (t : Term). valid_number t.outer) e ∙ c.requires.0.1.1))
 
 pub returns : goal.returns
-returns c = 
+returns c =
     let e = over-plus c.args.over c.args.s c.requires.0.0 (omega (arith, valid-low c.args.s c.requires.1)) in
     c.fold_three.ensures ∙ ap (λ (t : Term). folded_as (push_valid (shift_at t.inner) (shift_at t.outer) (shift_at t.wire) 2)) e

@@ -15,7 +15,7 @@ pub from_index-requires-2 : goal.from_index-requires-2
 from_index-requires-2 c = subst (λ (n : ℕ). valid_number n ≡ true) (sym c.outer.ensures) c.requires.1.1
 
 pub returns : goal.returns
-returns c = 
+returns c =
     let i = c.from_index.ensures.0 ∙ ap shift_at c.inner.ensures in
     let o = c.from_index-2.ensures.0 ∙ ap shift_at c.outer.ensures in
     c.fold_shifts.ensures

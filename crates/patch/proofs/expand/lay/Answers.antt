@@ -15,7 +15,7 @@ use Rattle.patch.proofs.Entries.{laid_none, laid-some}
 use Rattle.patch.proofs.expand.lay.Goals as goal
 
 pub returns-in_default : goal.returns-in_default
-returns-in_default c = 
+returns-in_default c =
     let q : inlined_number c.args.decisions.now (get_or c.args.table.now (term_of c.args.t).wire 0) ≡ 0 = subst (λ (w : ℕ). inlined_number c.args.decisions.now (get_or c.args.table.now w 0) ≡ 0) c.wire-wire.ensures (sym c.inlined-node.ensures ∙ ap told_node c.in_default.is) in
     let e : 65536 * c.inner-s.result + c.wire-wire.result.0 ≡ term_number (record { wire = (term_of c.args.t).wire; inner = (term_of c.args.t).inner; outer = 0 }) = omega (arith, c.wire-wire.ensures, c.inner-s.ensures) in
     ap₂ (λ (x y : ℕ). set (set c.args.alive.now c.args.at x) c.args.to y)

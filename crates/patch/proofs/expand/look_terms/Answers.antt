@@ -8,7 +8,7 @@ use lib.ListN.{length}
 use native.Mathlib.Omega.{arith}
 use mathlib.Core.Bool.{true}
 use mathlib.Core.List.{List}
-use Prim.Native.Nat.{ℕ, ◌+◌, ◌-◌}
+use Prim.Native.Nat.{ℕ, ◌+◌}
 use mathlib.Core.Path.{◌≡◌, sym, subst}
 use Rattle.patch.proofs.expand.look_terms.Goals as goal
 
@@ -25,7 +25,7 @@ pub overflow_add-to-in-loop-i : goal.overflow_add-to-in-loop-i
 overflow_add-to-in-loop-i c = omega (arith, c.requires.le_at.1, c.loop-i-test.true)
 
 pub lay-requires : goal.lay-requires
-lay-requires c = 
+lay-requires c =
     record { t_value = all_get (λ (t : ℕ). valid_number (term_of t).inner ≡ true) c.args.ts.now c.loop-i.i 0 c.requires.all c.loop-i-test.true; at_in_bounds = (omega (arith, c.requires.le_at.1, c.loop-i-test.true, c.loop-i.invariant.1.long), omega (arith, c.requires.le_at.1, c.loop-i-test.true, c.loop-i.invariant.1.long)) }
 
 pub loop-i-preserved : goal.loop-i-preserved

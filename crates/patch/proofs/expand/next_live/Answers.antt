@@ -1,7 +1,6 @@
 -- Each turn adds the place that it passes over. Assumes nothing.
 use Rattle.patch.proofs.Passing.{clear_more}
 use native.Mathlib.Omega.{arith}
-use Prim.Native.Nat.{◌-◌}
 use Rattle.patch.proofs.expand.next_live.Goals as goal
 
 pub loop-i-init : goal.loop-i-init

@@ -1,7 +1,6 @@
 -- Each turn lays down the masks and the entries of one definition more, behind those that are there. Assumes nothing.
 use Rattle.patch.proofs.Looking.{Filled, filled_none, filled_step, filled_looks, room_step}
 use native.Mathlib.Omega.{arith}
-use Prim.Native.Nat.{◌-◌}
 use mathlib.Core.Path.{◌≡◌, subst}
 use Rattle.patch.proofs.expand.write_looks.Goals as goal
 
@@ -12,31 +11,31 @@ pub bounds-rhss-d : goal.bounds-rhss-d
 bounds-rhss-d c = omega (arith, c.requires.lookable.right_sides, c.loop-d-test.true)
 
 pub look_operand-m-requires : goal.look_operand-m-requires
-look_operand-m-requires c = 
+look_operand-m-requires c =
     record { stands = c.requires.lookable.stand c.loop-d.d c.loop-d-test.true; all = c.requires.lookable.shifts_there c.loop-d.d c.loop-d-test.true; le_at = (omega (arith, c.loop-d.invariant.2.past), omega (arith, c.loop-d.invariant.1, c.loop-d.invariant.2.as_long, room_step c.args.rhss.now c.args.n c.loop-d.d c.loop-d-test.true c.requires.lookable.right_sides)); by_index = c.requires.lookable.nodes }
 
 pub overflow_mul-alive : goal.overflow_mul-alive
-overflow_mul-alive c = 
+overflow_mul-alive c =
     omega (arith, c.look_operand-m.ensures.0, c.loop-d.invariant.1, c.requires.rhss_in_bounds.1, room_step c.args.rhss.now c.args.n c.loop-d.d c.loop-d-test.true c.requires.lookable.right_sides)
 
 pub overflow_add-alive : goal.overflow_add-alive
-overflow_add-alive c = 
+overflow_add-alive c =
     omega (arith, c.look_operand-m.ensures.0, c.loop-d.invariant.1, c.requires.rhss_in_bounds.1, room_step c.args.rhss.now c.args.n c.loop-d.d c.loop-d-test.true c.requires.lookable.right_sides)
 
 pub bounds-alive-d : goal.bounds-alive-d
-bounds-alive-d c = 
+bounds-alive-d c =
     omega (arith, c.look_operand-m.ensures.1.long, c.loop-d.invariant.2.as_long, c.loop-d.invariant.2.past, c.loop-d.invariant.1, c.requires.lookable.few, c.loop-d-test.true)
 
 pub overflow_mul-at : goal.overflow_mul-at
-overflow_mul-at c = 
+overflow_mul-at c =
     omega (arith, c.look_operand-m.ensures.0, c.loop-d.invariant.1, c.requires.rhss_in_bounds.1, room_step c.args.rhss.now c.args.n c.loop-d.d c.loop-d-test.true c.requires.lookable.right_sides)
 
 pub overflow_add-at-in-loop-d : goal.overflow_add-at-in-loop-d
-overflow_add-at-in-loop-d c = 
+overflow_add-at-in-loop-d c =
     omega (arith, c.look_operand-m.ensures.0, c.loop-d.invariant.1, c.requires.rhss_in_bounds.1, room_step c.args.rhss.now c.args.n c.loop-d.d c.loop-d-test.true c.requires.lookable.right_sides)
 
 pub loop-d-preserved : goal.loop-d-preserved
-loop-d-preserved c = 
+loop-d-preserved c =
     (omega (arith, c.loop-d-test.true), omega (arith, c.look_operand-m.ensures.0, c.loop-d.invariant.1, room_step c.args.rhss.now c.args.n c.loop-d.d c.loop-d-test.true c.requires.lookable.right_sides), filled_step c.args.old.now c.args.new.now c.args.rhss.now c.args.table.now c.args.decisions.now c.args.alive.now c.requires.lookable.nodes c.loop-d.alive _ c.loop-d.at c.loop-d.d c.look_operand-m.result (omega (arith, c.loop-d-test.true, c.requires.lookable.few)) (omega (arith, c.loop-d.invariant.2.as_long, c.loop-d.invariant.2.past, c.loop-d.invariant.1)) (c.requires.lookable.stand c.loop-d.d c.loop-d-test.true) c.loop-d.invariant.2 c.look_operand-m.ensures.1 c.look_operand-m.ensures.0)
 
 pub shape_of-alive : goal.shape_of-alive

@@ -1,5 +1,5 @@
 -- The terms that are left are the whole. Assumes nothing.
-use Prim.Native.Nat.{◌+◌, ◌-◌}
+use Prim.Native.Nat.{◌+◌}
 use mathlib.Core.Path.{refl, sym, ap, ◌∙◌}
 use mathlib.Core.List.{map}
 use native.Mathlib.Omega.{arith}
@@ -18,11 +18,11 @@ pub loop-k-init : goal.loop-k-init
 loop-k-init c = (omega arith, refl, c.requires.rooted.1, refl)
 
 pub expand_term-cur-requires : goal.expand_term-cur-requires
-expand_term-cur-requires c = 
+expand_term-cur-requires c =
     record { readable = c.requires.readable; within = c.requires.by_index _; shifts_of = (operand_read ShiftsOf c.args.old.now c.args.new.now c.operand_terms-ts.result.now c.args.h c.loop-k.k c.operand_terms-ts.ensures c.requires.rooted.0.1 c.loop-k-test.true, omega (arith, c.loop-k.invariant.1, c.loop-k.invariant.2)) }
 
 pub loop-k-preserved : goal.loop-k-preserved
-loop-k-preserved c = 
+loop-k-preserved c =
     let q : Source = source c.args.old.now c.args.new.now c.args.rhss.now c.args.table.now c.args.decisions.now c.args.alive.now in (
       omega (arith, c.loop-k-test.true),
       omega arith,
@@ -32,7 +32,7 @@ loop-k-preserved c =
     )
 
 pub returns : goal.returns
-returns c = 
+returns c =
     let q : Source = source c.args.old.now c.args.new.now c.args.rhss.now c.args.table.now c.args.decisions.now c.args.alive.now in (
       sym (terms_end (spell q c.args.below) c.operand_terms-ts.result.now c.loop-k.k (spelt c.loop-k.out c.loop-k.cur) c.loop-k-test.false) ∙ c.loop-k.invariant.3
           ∙ ap (λ (o : Operand). write_terms (spell q c.args.below) o (spelt c.args.out.now c.args.c)) (operand_terms c.args.old.now c.args.new.now c.operand_terms-ts.result.now c.args.h c.operand_terms-ts.ensures),

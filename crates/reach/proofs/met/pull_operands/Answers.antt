@@ -6,7 +6,7 @@ use Rattle.lower.specs.Lists.{All}
 use Rattle.alive.specs.Masks.{ones}
 use Rattle.operand.specs.Numbers.{Operand, operand_of}
 use lib.ListN.{take, drop, get_or}
-use Prim.Native.Nat.{ℕ, ◌+◌, ◌-◌}
+use Prim.Native.Nat.{ℕ, ◌+◌}
 use mathlib.Core.Path.{refl, sym, ap, ◌∙◌, subst}
 use Rattle.reach.proofs.met.pull_operands.Goals as goal
 

@@ -15,7 +15,7 @@ mask_one-requires c = let h : Held = held c.args.old.now c.args.new.now c.args.d
     subst (λ (n : ℕ). Able h n (get_or c.args.order.now (c.loop-i.i - 1) 0)) (sym c.loop-i.invariant.2) (all_from {P = Able h (length c.args.masks.now)} c.args.order.now c.args.left (c.loop-i.i - 1) c.requires.all (omega arith) (omega arith))
 
 pub loop-i-preserved : goal.loop-i-preserved
-loop-i-preserved c = 
+loop-i-preserved c =
     let h : Held = held c.args.old.now c.args.new.now c.args.dsts.now c.args.rhss.now c.args.decisions.now in (
       omega arith,
       omega arith,

@@ -2,7 +2,7 @@ use Rattle.reach.specs.Steps.{mask_at_lem}
 use Rattle.reach.specs.Alive.{or_all, through}
 use Rattle.operand.specs.Numbers.{term_of}
 use lib.ListN.{length, drop}
-use Prim.Native.Nat.{ℕ, ◌-◌, ◌≤◌}
+use Prim.Native.Nat.{ℕ, ◌≤◌}
 use mathlib.Core.Path.{◌≡◌}
 use Rattle.reach.proofs.written.operand_mask.Given as goal
 
