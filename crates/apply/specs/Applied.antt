@@ -4,7 +4,7 @@
 --   untouched          a row of operand numbers names no defined wire, by the table
 --   kept_rows q k n hs  of n rows of k numbers those that pass the test, one after the other
 --   rows_after          these, and of the numbers of new operands as many as were struck
---   struck             how many numbers are struck; from_imuls, from_bmuls, from_zeros, fromCommits: where in the list of new numbers those of
+--   struck             how many numbers are struck; from_imuls, from_bmuls, from_zeros, from_commits: where in the list of new numbers those of
 --                      the next list begin, lists in their order
 --   Rows               n rows of k numbers are there, and stand in their stores; Listed, what is asked of the four lists and of the list of new numbers
 --   only_if b l         l, or nothing

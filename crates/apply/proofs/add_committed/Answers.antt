@@ -24,7 +24,7 @@ pub overflow_add-n : goal.overflow_add-n
 overflow_add-n c = omega (arith, wires_count c.args.table.now c.args.decisions.now c.loop-w.w c.args.wires c.loop-w-test.true, c.add_definition-n.ensures.value, c.loop-w.invariant.3, c.requires.wires_in_bounds)
 
 pub loop-w-preserved : goal.loop-w-preserved
-loop-w-preserved c = 
+loop-w-preserved c =
     let n = wires_count c.args.table.now c.args.decisions.now c.loop-w.w c.args.wires c.loop-w-test.true in
     let left = length (committed_wires c.args.table.now c.args.decisions.now (c.loop-w.w + 1) (c.args.wires - (c.loop-w.w + 1))) in
     let a : c.args.at + (c.loop-w.n + c.add_definition-n.result) ≡ c.args.at + c.loop-w.n + c.add_definition-n.result = omega arith in

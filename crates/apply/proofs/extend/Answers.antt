@@ -4,7 +4,7 @@ use lib.Seq.{sets}
 use lib.ListN.{take, drop, get_or, set, length-set}
 use mathlib.Core.List.{List}
 use native.Mathlib.Omega.{arith}
-use Prim.Native.Nat.{ℕ, ◌+◌, ◌-◌}
+use Prim.Native.Nat.{ℕ, ◌+◌}
 use mathlib.Core.Path.{◌≡◌, ap, ◌∙◌}
 use Rattle.apply.proofs.extend.Goals as goal
 

@@ -8,7 +8,7 @@ use mathlib.Core.Path.{◌≡◌, ap, ◌∙◌}
 use Rattle.apply.proofs.patch_lists.Goals as goal
 
 pub returns : goal.returns
-returns c = let q = untouched c.args.old.now c.args.new.now c.args.table.now in 
+returns c = let q = untouched c.args.old.now c.args.new.now c.args.table.now in
     let e1 : c.patch_rows-from.result ≡ from_imuls q c.args.z c.args.ands.now = c.patch_rows-from.ensures.value ∙ zero-add (struck q 3 c.args.z.ands c.args.ands.now) in
     let e2 : c.patch_rows-from-2.result ≡ from_bmuls q c.args.z c.args.ands.now c.args.imuls.now = c.patch_rows-from-2.ensures.value ∙ ap (λ (m : ℕ). m + struck q 4 c.args.z.imuls c.args.imuls.now) e1 in
     let e3 : c.patch_rows-from-3.result ≡ from_zeros q c.args.z c.args.ands.now c.args.imuls.now c.args.bmuls.now = c.patch_rows-from-3.ensures.value ∙ ap (λ (m : ℕ). m + struck q 6 c.args.z.bmuls c.args.bmuls.now) e2 in record {

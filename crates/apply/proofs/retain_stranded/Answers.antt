@@ -4,7 +4,7 @@ use Rattle.apply.specs.Applied.{is_stranded, keep_from}
 use lib.Seq.{sets, length-sets}
 use lib.ListN.{length, take}
 use native.Mathlib.Omega.{arith}
-use Prim.Native.Nat.{ℕ, ◌+◌, ◌-◌, ◌<◌}
+use Prim.Native.Nat.{ℕ, ◌+◌, ◌<◌}
 use mathlib.Core.Path.{◌≡◌, refl, sym, ap, ◌∙◌}
 use Rattle.apply.proofs.retain_stranded.Goals as goal
 
@@ -17,7 +17,7 @@ keep_definition-at-requires c = let q = is_stranded c.args.decisions.now c.args.
     (keep_low q c.args.dsts.now c.loop-i.i c.loop-i.at (omega (arith, c.loop-i-test.true, c.requires.0)) c.loop-i.invariant.5, omega (arith, c.loop-i-test.true, c.requires.0, c.loop-i.invariant.1), omega (arith, c.loop-i-test.true, c.requires.1, c.loop-i.invariant.2))
 
 pub loop-i-preserved : goal.loop-i-preserved
-loop-i-preserved c = let q = is_stranded c.args.decisions.now c.args.reach.now in 
+loop-i-preserved c = let q = is_stranded c.args.decisions.now c.args.reach.now in
     let a : c.loop-i.i < length c.args.dsts.now = omega (arith, c.loop-i-test.true, c.requires.0) in
     let b : c.loop-i.i < length c.args.rhss.now = omega (arith, c.loop-i-test.true, c.requires.1) in
     let d = keep_step q c.args.dsts.now c.loop-i.i c.loop-i.at a c.loop-i.invariant.5 c.loop-i.dsts _ c.loop-i.invariant.3 c.keep_definition-at.ensures.dsts_after in

@@ -8,7 +8,7 @@ use Rattle.lower.specs.Stores.{Stands}
 use lib.Seq.{sets, length-sets}
 use lib.ListN.{length}
 use native.Mathlib.Omega.{arith}
-use Prim.Native.Nat.{ℕ, ◌+◌, ◌*◌, ◌-◌}
+use Prim.Native.Nat.{ℕ, ◌+◌, ◌*◌}
 use mathlib.Core.Path.{◌≡◌, refl, ap, ◌∙◌, sym, subst}
 use Rattle.apply.proofs.retain_unsubsumed.Goals as goal
 
