@@ -17,7 +17,7 @@ use Rattle.lower.proofs.Laws.{all_left, linears_length}
 use Rattle.legraph.specs.Tables.{numbered}
 use Rattle.legraph.proofs.Listing.{table_of}
 use Rattle.legraph.proofs.Theorem.{table_made}
-use Rattle.patch.specs.Patch.{row_rebuilds, rebuilds, rhss_of, commits, gone, stranded, stays, written, kept}
+use Rattle.patch.specs.Patch.{row_rebuilds, rebuilds, rhss_of, commits, stranded, stays, written}
 use Rattle.patch.specs.Handles.{keep_by}
 use Rattle.patch.specs.Counts.{Counted}
 use Rattle.patch.proofs.Counting.{counted, definitions_few}

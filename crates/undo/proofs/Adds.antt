@@ -2,7 +2,7 @@
 use mathlib.Core.Path.{◌≡◌, refl, sym, ap, ap₂, ◌∙◌}
 use Prim.Native.Nat.{ℕ}
 use mathlib.Core.List.{[], ◌∷◌, ◌++◌}
-use lib.Bits.{bit_xor, xor_comm, xor_self, xor_lt}
+use lib.Bits.{bit_xor, xor_comm, xor_self}
 use Rattle.operand.specs.Numbers.{Term, Operand}
 use Rattle.lower.specs.Values.{moved, term_value, value}
 use Rattle.undo.specs.FillBack.{IsWord}
