@@ -1,5 +1,4 @@
 -- Modules that belong to no one function.
-pub mod Lent
 pub mod Turns
 pub mod Parts
 pub mod Calls

@@ -9,4 +9,4 @@ pub returns-then-answer-eq0 : goal.returns-then-answer-eq0
 returns-then-answer-eq0 c = record { left = _; answer = _; decides = c.decide-answer.ensures; right = accepted _ _ _ c.if-answer-expected.false c.if-answer-eq0.true }
 
 pub returns : goal.returns
-returns c = record { left = _; answer = _; decides = c.decide.ensures; right = kept _ _ _ _ c.if1.false c.if2.false c.untouched.ensures }
+returns c = record { left = _; answer = _; decides = c.decide-answer.ensures; right = kept _ _ _ _ c.if-answer-expected.false c.if-answer-eq0.false c.untouched.ensures }

@@ -9,4 +9,4 @@ returns-then-seen-ne0 c =
 
 pub returns : goal.returns
 returns c = 
-    c.again.ensures ∙ rw (c.count.ensures, c.answer.ensures, c.same.ensures) (file_again c.before.args.file.now c.before.args.asked c.before.args.one.now c.before.args.two.now c.before.args.t c.pass.ensures c.if1.false)
+    c.again.ensures ∙ rw (c.count-told.ensures, c.answer.ensures, c.same.ensures) (file_again c.args.file.now c.args.asked c.args.one.now c.args.two.now c.args.t c.pass-seen.ensures c.if-seen-ne0.false)

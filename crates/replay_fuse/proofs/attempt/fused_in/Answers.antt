@@ -2,4 +2,4 @@
 use Rattle.replay_fuse.proofs.attempt.fused_in.Goals as goal
 
 pub returns : goal.returns
-returns c = record { answer = _; fuses = c.fuse.ensures; judged = c.judge.ensures }
+returns c = record { answer = _; fuses = c.fuse-answer.ensures; judged = c.judge.ensures }

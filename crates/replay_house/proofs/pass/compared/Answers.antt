@@ -5,7 +5,7 @@ use Rattle.replay_house.proofs.pass.compared.Goals as goal
 
 pub returns : goal.returns
 returns c = 
-    let e : length c.before.args.file.now - 0 ≡ length c.before.args.file.now = omega arith in (
-      c.bytes.ensures ∙ rw (c.count-2.ensures, c.count.ensures) (compared_is c.before.args.seen c.before.args.file.now c.before.args.two.now c.before.args.t c.pass.ensures c.same.ensures (rw e at c.equal-is_equal.ensures)),
+    let e : length c.args.file.now - 0 ≡ length c.args.file.now = omega arith in (
+      c.bytes.ensures ∙ rw (c.count-2.ensures, c.count.ensures) (compared_is c.args.seen c.args.file.now c.args.two.now c.args.t c.pass.ensures c.same-is_same.ensures (rw e at c.equal-is_equal.ensures)),
       c.pass.ensures.bytes_are,
     )

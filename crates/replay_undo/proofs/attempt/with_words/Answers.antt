@@ -5,4 +5,4 @@ use Rattle.std.proofs.Common.{◌∙◌}
 use Rattle.replay_undo.proofs.attempt.with_words.Goals as goal
 
 pub returns : goal.returns
-returns c = in_words _ _ _ _ _ _ _ _ _ _ _ (less_none _ ∙ c.least.ensures.0) (less_none _ ∙ c.least.ensures.0) c.on_words.ensures
+returns c = in_words _ _ _ _ _ _ _ _ _ _ _ (less_none _ ∙ c.least-n.ensures.0) (less_none _ ∙ c.least-n.ensures.0) c.on_words.ensures

@@ -6,11 +6,8 @@ use Rattle.replay_undo.proofs.back.refill.Goals as goal
 pub returns-then-answer-told : goal.returns-then-answer-told
 returns-then-answer-told c = another_answer _ _ _ _ _ _ _ _ _ _ _ c.extend.ensures c.fill_back-answer.ensures c.if-answer-told.true refl
 
-pub same_numbers-requires : goal.same_numbers-requires
-same_numbers-requires c = omega (arith, c.before.well-formed.1.1.1.1.1.1.1.1.1.1.1.0)
-
 pub overflow_add-result : goal.overflow_add-result
-overflow_add-result c = omega (arith, c.same_numbers.ensures.1, c.before.well-formed.1.1.1.1.1.1.1.1.1.1.1.0)
+overflow_add-result c = omega (arith, c.same_numbers.ensures.1)
 
 pub returns : goal.returns
-returns c = told_answer _ _ _ _ _ _ _ _ _ _ _ c.extend.ensures c.fill-back.ensures c.if1.false (ap (λ (k : ℕ). 1 + k) c.same_numbers.ensures.0)
+returns c = told_answer _ _ _ _ _ _ _ _ _ _ _ c.extend.ensures c.fill_back-answer.ensures c.if-answer-told.false (ap (λ (k : ℕ). 1 + k) c.same_numbers.ensures.0)

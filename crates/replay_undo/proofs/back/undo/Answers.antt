@@ -5,4 +5,4 @@ use Rattle.std.proofs.Common.{◌∙◌}
 use Rattle.replay_undo.proofs.back.undo.Goals as goal
 
 pub returns : goal.returns
-returns c = in_stores _ _ _ _ _ _ _ _ _ (less_none _ ∙ c.least.ensures.0) c.on_noisy.ensures
+returns c = in_stores _ _ _ _ _ _ _ _ _ (less_none _ ∙ c.least-m.ensures.0) c.on_noisy.ensures
