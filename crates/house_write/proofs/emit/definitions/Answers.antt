@@ -13,14 +13,11 @@ use Rattle.house_write.proofs.emit.definitions.Goals as goal
 pub loop-i-init : goal.loop-i-init
 loop-i-init c = (refl, (refl, (c.requires.all.0, (c.requires.all.1, omega arith))))
 
-pub overflow_cast-dst : goal.overflow_cast-dst
-overflow_cast-dst c = omega (arith, c.shared_slice_known-in-loop-i-1.given c.loop-i.i)
-
 pub definition-q-requires : goal.definition-q-requires
 definition-q-requires c =
     let y = all_first (rw (part_step c.args.rhss.now c.args.n c.loop-i.i 0 c.loop-i-test.true c.requires.n_bound.1.1.0) at c.loop-i.invariant.1.1.0) in
     let k = definitions_narrow (operand_of c.args.old.now c.args.new.now) c.args.dsts.now c.args.rhss.now c.args.n c.loop-i.i c.loop-i-test.true c.requires.n_bound.1.0 c.requires.n_bound.1.1.0 c.loop-i.invariant.1.1.1.0 in
-    (y.0, (omega (arith, c.shared_slice_known-in-loop-i-1.given c.loop-i.i), (k.0, omega (arith, c, c.requires))))
+    (y.0, (omega (arith, c.type_inv.dsts c.loop-i.i), (k.0, omega (arith, c, c.requires))))
 
 pub loop-i-preserved : goal.loop-i-preserved
 loop-i-preserved c =
