@@ -14,14 +14,12 @@ use Rattle.house_write.specs.declared.Written.{Written}
 use Rattle.house_write.specs.declared.Written.TheVariants as W
 use Rattle.house_write.specs.Write.{WriteIs}
 use Rattle.house_write.proofs.Once.{write_once}
-use Rattle.fusion.specs.declared.Fused.TheVariants as F
 use Rattle.fusion.specs.Left.{Lent, lent, output}
 use Rattle.fusion.specs.Answer.{told_fused, Fuses}
 use Rattle.fusion.proofs.Once.{fuses_once}
 use Rattle.text.specs.Text.{Puts}
 use Rattle.text.proofs.Once.{puts_once}
 use Rattle.report.specs.declared.outcome.Outcome.{Outcome}
-use Rattle.report.specs.declared.outcome.Outcome.TheVariants as O
 use Rattle.report.specs.declared.FuseFile.{FuseFile}
 use Rattle.report.specs.Outcome.{made, ReadLent, Comes, unread, unfused, fused, told_outcome}
 use Rattle.report.specs.Report.{RESULT_TERMS, line_of, Answered, Reports, long, answers, Reported}

@@ -6,7 +6,6 @@ use mathlib.Core.Bool.{Bool, true, false, cond}
 use mathlib.Core.List.{List, [], ◌∷◌, ◌++◌, map}
 use lib.ListN.{length, take, drop, length-map, length-append}
 use lib.Seq.{sets, drop_at, length-sets}
-use Rattle.word.specs.Answers as T
 use Rattle.operand.specs.Numbers.{operand_of}
 use Rattle.lower.specs.declared.Sizes.{Sizes}
 use Rattle.lower.specs.Lists.{keep}

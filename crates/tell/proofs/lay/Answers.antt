@@ -1,7 +1,6 @@
 -- What is left to lay, laid from where the walk stands, makes what is asked for. Assumes nothing.
 use Rattle.tell.proofs.Laying.{lay_step, lay_end}
 use native.Mathlib.Omega.{arith}
-use Prim.Native.Nat.{◌-◌}
 use mathlib.Core.Path.{refl, sym, ◌∙◌}
 use Rattle.tell.proofs.lay.Goals as goal
 

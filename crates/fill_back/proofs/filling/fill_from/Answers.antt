@@ -1,6 +1,5 @@
 -- The words with the definitions from the last one on are the whole. Assumes nothing.
 use mathlib.Core.Path.{◌≡◌, refl, ◌∙◌}
-use Prim.Native.Nat.{◌-◌}
 use native.Mathlib.Omega.{arith}
 use Rattle.fill_back.specs.Steps.{Held, held}
 use Rattle.fill_back.proofs.Storing.{from_end, from_back, able_at}
@@ -10,12 +9,12 @@ pub loop-i-init : goal.loop-i-init
 loop-i-init c = (omega (arith, c.requires.left_in_bounds), omega (arith, c.requires.left_in_bounds), refl, from_end (held c.args.old.now c.args.new.now c.args.dsts.now c.args.rhss.now c.args.flags.now) c.args.assignment.now c.args.order.now)
 
 pub fill_one-requires : goal.fill_one-requires
-fill_one-requires c = 
+fill_one-requires c =
     let h : Held = held c.args.old.now c.args.new.now c.args.dsts.now c.args.rhss.now c.args.flags.now in
     able_at h c.args.assignment.now c.args.order.now c.args.left c.requires.all c.loop-i.invariant.2 (omega arith) (omega arith)
 
 pub loop-i-preserved : goal.loop-i-preserved
-loop-i-preserved c = 
+loop-i-preserved c =
     let h : Held = held c.args.old.now c.args.new.now c.args.dsts.now c.args.rhss.now c.args.flags.now in (
       omega arith,
       omega arith,
