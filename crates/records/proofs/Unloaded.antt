@@ -13,7 +13,7 @@ module _ (ys : List Definition) (m : ℕ) (e : m ≡ held (length ys)) where
   in_records = (held_in (length ys) m e).0
 
   pub in_array : (l : List ℕ) → l ≡ replicate MAX_DEFINITIONS 0 → m ≤ length l
-  in_array l b = omega (arith, (held_in (length ys) m e).1, ap length b, length-replicate 1024 0)
+  in_array l b = omega (arith, (held_in (length ys) m e).1, ap length b, length-replicate {A = ℕ} 1024 0)
 
   pub front_dsts : (l l' : List ℕ) → l ≡ replicate MAX_DEFINITIONS 0 → l' ≡ unloaded l (dsts_of ys) m → take m l' ≡ take m (dsts_of ys)
   front_dsts l l' b u =
