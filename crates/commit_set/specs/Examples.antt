@@ -19,10 +19,10 @@ pub data Example : Type 0 where
 -- definition commits for any slots
 abbrev pub Holds : Example → Type 0
 Holds (shifts e) = O.Holds e
-Holds (multiplies terms uses n ground) =
+Holds (multiplies terms uses n is_ground) =
     (pred terms * pred uses ≡ n)
     × ((cs : List CommitSetCx) (ss : List Shift) → length ss ≡ terms → length cs ≡ uses → some_over 1 cs ss ≡ true
-    → (multiplies_out cs ss ≡ ground) × (ground ≡ true → (slots : ℕ) → commits slots cs ss ≡ true))
+    → (multiplies_out cs ss ≡ is_ground) × (is_ground ≡ true → (slots : ℕ) → commits slots cs ss ≡ true))
 
 -- "terms 3, uses 3, not one run: product 4, no commit on that ground. Terms 2, uses 6: 5, commit"
 abbrev pub examples : List Example
