@@ -13,10 +13,10 @@ returns-then-fault-ne0 c = refused c.check-fault.ensures c.if-fault-ne0.true ref
 pub overflow_cast-slots : goal.overflow_cast-slots
 overflow_cast-slots c =
     let l : Lent = lent c.args.old.now c.args.new.now c.args.ands.now c.args.imuls.now c.args.bmuls.now c.args.zeros.now c.args.dsts.now c.args.rhss.now c.args.flags.now in
-    omega (arith, slots_few c.args.slots c.args.z (input l) (sym c.check-fault.ensures ∙ c.if-fault-ne0.false))
+    omega (arith, slots_few c.args.slots c.args.z (input l) (sym c.check-fault.ensures ∙ omega arith))
 
 pub fuse_checked-requires : goal.fuse_checked-requires
-fuse_checked-requires c = sym c.check-fault.ensures ∙ c.if-fault-ne0.false
+fuse_checked-requires c = sym c.check-fault.ensures ∙ omega arith
 
 pub returns : goal.returns
 returns c = c.fuse_checked.ensures

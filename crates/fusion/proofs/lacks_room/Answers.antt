@@ -1,6 +1,7 @@
 -- The three tests in turn. Assumes nothing.
 use Rattle.fusion.specs.Steps.{lacks_room}
 use borrow.Author.Tests.{lt-ltb, le-ltb}
+use native.Mathlib.Omega.{arith}
 use Rattle.fusion.proofs.lacks_room.Goals as goal
 
 pub returns-then-c : goal.returns-then-c
@@ -17,4 +18,4 @@ returns-then-flags-wires c = rw (c.if-c.false, le-ltb _ _ c.if-new-c.false, lt-l
 
 pub returns : goal.returns
 unfolding lacks_room
-returns c = rw (c.if-c.false, le-ltb _ _ c.if-new-c.false, le-ltb _ _ c.if-flags-wires.false)
+returns c = rw (c.if-c.false, le-ltb _ _ c.if-new-c.false, le-ltb c.args.flags c.args.wires (omega arith))
