@@ -10,7 +10,6 @@ use lib.Dec.{ltb, leb}
 use lib.ListN.{length, take, drop, get_or, length-append, length-map, length-drop, take-append-drop, get_or-map}
 use lib.Seq.{sets, length-sets, take-take, length-take-le, drop-append-le}
 use borrow.Author.Tests.{le-leb, lt-leb}
-use Rattle.word.specs.Answers as W
 use Rattle.word.specs.Answers.{Told}
 use Rattle.shift.specs.Shifts.{valid_number}
 use Rattle.operand.specs.Numbers.{Term, operand_at, operand_of, within, term_number}

@@ -28,7 +28,10 @@ pub extern "C" fn tiwzerand_fuse_records(
 ) -> u8
     ensures { FusesTo slots (sizes wires n_ands n_imuls n_bmuls n_zeros n_linears) (lent_by old.now new.old ands.old imuls.old bmuls.old zeros.old defs.old flags.old) (lent_by old.now new.new ands.new imuls.new bmuls.new zeros.new defs.new flags.new) values.old result values.new }
 {
-    tiwzerand::by_records::tiwzerand_fuse_records(old, new, ands, imuls, bmuls, zeros, defs, flags, wires, n_ands, n_imuls, n_bmuls, n_zeros, n_linears, slots, values)
+    tiwzerand::by_records::tiwzerand_fuse_records(
+        old, new, ands, imuls, bmuls, zeros, defs, flags, wires, n_ands, n_imuls, n_bmuls, n_zeros,
+        n_linears, slots, values,
+    )
 }
 
 // `tiwzerand_read` to records.
@@ -45,7 +48,9 @@ pub extern "C" fn tiwzerand_read_records(
 ) -> u8
     ensures { Reads input.now terms.old ands.old imuls.old bmuls.old zeros.old (dsts_of defs.old) (rhss_of defs.old) values.old result terms.new ands.new imuls.new bmuls.new zeros.new (dsts_of defs.new) (rhss_of defs.new) values.new }
 {
-    tiwzerand::by_records::tiwzerand_read_records(input, terms, ands, imuls, bmuls, zeros, defs, values)
+    tiwzerand::by_records::tiwzerand_read_records(
+        input, terms, ands, imuls, bmuls, zeros, defs, values,
+    )
 }
 
 // `tiwzerand_write` from records.
@@ -69,7 +74,10 @@ pub extern "C" fn tiwzerand_write_records<'a>(
 ) -> u8
     ensures { Writes (sizes wires n_ands n_imuls n_bmuls n_zeros n_linears) (stores_by old.now new.now ands.now imuls.now bmuls.now zeros.now defs.now) out.old values.old result out.new values.new }
 {
-    tiwzerand::by_records::tiwzerand_write_records(old, new, ands, imuls, bmuls, zeros, defs, wires, n_ands, n_imuls, n_bmuls, n_zeros, n_linears, out, values)
+    tiwzerand::by_records::tiwzerand_write_records(
+        old, new, ands, imuls, bmuls, zeros, defs, wires, n_ands, n_imuls, n_bmuls, n_zeros,
+        n_linears, out, values,
+    )
 }
 
 // `tiwzerand_evaluate` over records.
@@ -94,7 +102,10 @@ pub extern "C" fn tiwzerand_evaluate_records<'a>(
 ) -> u8
     ensures { Evaluates (sizes wires n_ands n_imuls n_bmuls n_zeros n_linears) (stores_by old.now new.now ands.now imuls.now bmuls.now zeros.now defs.now) assignment.now out.old values.old result out.new values.new }
 {
-    tiwzerand::by_records::tiwzerand_evaluate_records(old, new, ands, imuls, bmuls, zeros, defs, wires, n_ands, n_imuls, n_bmuls, n_zeros, n_linears, assignment, out, values)
+    tiwzerand::by_records::tiwzerand_evaluate_records(
+        old, new, ands, imuls, bmuls, zeros, defs, wires, n_ands, n_imuls, n_bmuls, n_zeros,
+        n_linears, assignment, out, values,
+    )
 }
 
 // `tiwzerand_fill_back` over records.
@@ -117,5 +128,8 @@ pub extern "C" fn tiwzerand_fill_back_records(
 ) -> u8
     ensures { FillsIs (sizes wires n_ands n_imuls n_bmuls n_zeros n_linears) (stores_by old.now [] ands.now imuls.now bmuls.now zeros.now defs.now) flags.now assignment.old assignment.new result }
 {
-    tiwzerand::by_records::tiwzerand_fill_back_records(old, ands, imuls, bmuls, zeros, defs, wires, n_ands, n_imuls, n_bmuls, n_zeros, n_linears, flags, assignment)
+    tiwzerand::by_records::tiwzerand_fill_back_records(
+        old, ands, imuls, bmuls, zeros, defs, wires, n_ands, n_imuls, n_bmuls, n_zeros, n_linears,
+        flags, assignment,
+    )
 }

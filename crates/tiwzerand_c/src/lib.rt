@@ -73,7 +73,10 @@ pub extern "C" fn tiwzerand_fuse(
 ) -> u8
     ensures { FusesTo slots (sizes wires n_ands n_imuls n_bmuls n_zeros n_linears) (lent old.now new.old ands.old imuls.old bmuls.old zeros.old dsts.old rhss.old flags.old) (lent old.now new.new ands.new imuls.new bmuls.new zeros.new dsts.new rhss.new flags.new) values.old result values.new }
 {
-    tiwzerand::tiwzerand_fuse(old, new, ands, imuls, bmuls, zeros, dsts, rhss, flags, wires, n_ands, n_imuls, n_bmuls, n_zeros, n_linears, slots, values)
+    tiwzerand::tiwzerand_fuse(
+        old, new, ands, imuls, bmuls, zeros, dsts, rhss, flags, wires, n_ands, n_imuls, n_bmuls,
+        n_zeros, n_linears, slots, values,
+    )
 }
 
 // Writes the system as a house file. The value: its length.
@@ -98,7 +101,10 @@ pub extern "C" fn tiwzerand_write<'a>(
 ) -> u8
     ensures { Writes (sizes wires n_ands n_imuls n_bmuls n_zeros n_linears) (stores old.now new.now ands.now imuls.now bmuls.now zeros.now dsts.now rhss.now) out.old values.old result out.new values.new }
 {
-    tiwzerand::tiwzerand_write(old, new, ands, imuls, bmuls, zeros, dsts, rhss, wires, n_ands, n_imuls, n_bmuls, n_zeros, n_linears, out, values)
+    tiwzerand::tiwzerand_write(
+        old, new, ands, imuls, bmuls, zeros, dsts, rhss, wires, n_ands, n_imuls, n_bmuls, n_zeros,
+        n_linears, out, values,
+    )
 }
 
 // The values of all operands, in the writer's order, to `out`. The value: how many.
@@ -124,7 +130,10 @@ pub extern "C" fn tiwzerand_evaluate<'a>(
 ) -> u8
     ensures { Evaluates (sizes wires n_ands n_imuls n_bmuls n_zeros n_linears) (stores old.now new.now ands.now imuls.now bmuls.now zeros.now dsts.now rhss.now) assignment.now out.old values.old result out.new values.new }
 {
-    tiwzerand::tiwzerand_evaluate(old, new, ands, imuls, bmuls, zeros, dsts, rhss, wires, n_ands, n_imuls, n_bmuls, n_zeros, n_linears, assignment, out, values)
+    tiwzerand::tiwzerand_evaluate(
+        old, new, ands, imuls, bmuls, zeros, dsts, rhss, wires, n_ands, n_imuls, n_bmuls, n_zeros,
+        n_linears, assignment, out, values,
+    )
 }
 
 // Gives each defined wire that is not committed the value of its definition. The system is the one before fusing.
@@ -148,5 +157,8 @@ pub extern "C" fn tiwzerand_fill_back(
 ) -> u8
     ensures { FillsIs (sizes wires n_ands n_imuls n_bmuls n_zeros n_linears) (stores old.now [] ands.now imuls.now bmuls.now zeros.now dsts.now rhss.now) flags.now assignment.old assignment.new result }
 {
-    tiwzerand::tiwzerand_fill_back(old, ands, imuls, bmuls, zeros, dsts, rhss, wires, n_ands, n_imuls, n_bmuls, n_zeros, n_linears, flags, assignment)
+    tiwzerand::tiwzerand_fill_back(
+        old, ands, imuls, bmuls, zeros, dsts, rhss, wires, n_ands, n_imuls, n_bmuls, n_zeros,
+        n_linears, flags, assignment,
+    )
 }

@@ -7,7 +7,7 @@ use Rattle.records.proofs.records_fault.Given as goal
 abbrev pub invariant-loop-k : goal.invariant-loop-k
 invariant-loop-k l = record {
   within : l.k ≤ l.n;
-  found : l.fault ≡ pairs_fault l.wires l.old l.new (take l.k (dsts_of l.defs)) (take l.k (rhss_of l.defs))
+  found : l.fault ≡ pairs_fault l.wires l.old l.new (take l.k (dsts_of l.defs)) (take l.k (rhss_of l.defs));
 }
 
 abbrev pub decreases-loop-k : goal.decreases-loop-k

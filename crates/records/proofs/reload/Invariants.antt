@@ -6,7 +6,7 @@ use Rattle.records.proofs.reload.Given as goal
 abbrev pub invariant-loop-k : goal.invariant-loop-k
 invariant-loop-k l = record {
   within : l.k ≤ l.n;
-  made_are : l.defs ≡ reloaded l.fn.defs l.dsts l.rhss l.k
+  made_are : l.defs ≡ reloaded l.fn.defs l.dsts l.rhss l.k;
 }
 
 abbrev pub decreases-loop-k : goal.decreases-loop-k

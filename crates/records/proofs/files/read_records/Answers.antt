@@ -1,5 +1,5 @@
 -- The arrays hold the first numbers, and what is read to them, put back, is what is read to all. Assumes nothing.
-use Rattle.std.proofs.Common.{ℕ, ◌≤◌, List, length, take, ap, ◌∙◌, arith}
+use Rattle.std.proofs.Common.{◌≤◌, length, take, ap, ◌∙◌, arith}
 use Rattle.records.specs.Records.{dsts_of, rhss_of}
 use Rattle.records.proofs.Parts.{reloaded_dsts, reloaded_rhss}
 use Rattle.records.proofs.Unloaded.{in_records, in_array, front_dsts, front_rhss}
