@@ -11,9 +11,8 @@ use asked::Asked;
 use house_write::Written;
 use report::FuseFile;
 use std::env::{Env, FillError};
-use std::io;
 use std::io::{Cursor, Read, Write};
-use std::str;
+use std::{io, str};
 
 mod asked;
 

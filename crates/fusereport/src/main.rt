@@ -4,9 +4,8 @@
 ghost use Rattle.std.specs.Prelude.{◌≤◌, length};
 
 use house_write::Written;
-use std::io;
 use std::io::{Cursor, Read, Write};
-use std::str;
+use std::{io, str};
 
 // One more than `report` takes: a longer file is told from one that is as long as it may be.
 const MAX_READ: usize = 65537;

@@ -640,7 +640,12 @@ fn main(rt: HostRuntime) -> io::Result<()> {
         return Ok(());
     }
     let t = replay(&input[0..n]);
-    println!(rt; "vectors {} right {} wrong {}", number(&input[0..n], 0), t.right, t.wrong)?;
+    println!(rt;
+        "vectors {} right {} wrong {}",
+        number(&input[0..n], 0),
+        t.right,
+        t.wrong
+    )?;
     println!(rt; "committed {} digest {}", t.committed, t.digest)?;
     println!(rt; "checks right {} wrong {}", t.passed, t.failed)
 }

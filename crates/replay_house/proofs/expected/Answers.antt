@@ -10,5 +10,5 @@ returns-then-input-at c = c.nothing.ensures ∙ sym (rw (lt-leb c.args.at (lengt
 
 pub returns : goal.returns
 unfolding expected_at
-returns c = 
+returns c =
     rw (le-leb c.args.at (length c.args.input.now) c.if-input-at.false, c.length_if.ensures, c.number-8.ensures.0, c.number-7.ensures.0, c.number-6.ensures.0, c.number-5.ensures.0, c.number-4.ensures.0, c.number-3.ensures.0, c.number-2.ensures.0, c.number.ensures.0, c.number-fault.ensures.0)

@@ -14,5 +14,5 @@ returns-then-input-at c = (rw (lt-leb (c.args.at + 4) (length c.args.input.now) 
 
 pub returns : goal.returns
 unfolding number_at
-returns c = 
+returns c =
     (rw (le-leb (c.args.at + 4) (length c.args.input.now) (omega arith), c.num-2.ensures.0, c.num.ensures.0), omega arith)

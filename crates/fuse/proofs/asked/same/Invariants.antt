@@ -3,7 +3,7 @@ use Rattle.std.proofs.Common.{◌≡◌, ◌-◌, ◌≤◌, length, drop}
 use Rattle.fuse.proofs.asked.same.Given as goal
 
 abbrev pub invariant-loop-i : goal.invariant-loop-i
-invariant-loop-i l = (l.i ≤ length l.a.now) × (same_text l.a.now l.b.now ≡ same_text (drop l.i l.a.now) (drop l.i l.b.now))
+invariant-loop-i l = (l.i ≤ length l.a) × (same_text l.a l.b ≡ same_text (drop l.i l.a) (drop l.i l.b))
 
 abbrev pub decreases-loop-i : goal.decreases-loop-i
-decreases-loop-i l = length l.a.now - l.i
+decreases-loop-i l = length l.a - l.i

@@ -15,16 +15,16 @@ loop-left-init c = (refl, omega arith)
 
 pub returns-then-end-at : goal.returns-then-end-at
 unfolding cut_at
-returns-then-end-at c = 
+returns-then-end-at c =
     rw (le-leb c.args.end (length c.args.file.now) c.if-file-end.false) (sym (c.loop-left.invariant.0 ∙ cut_head c.args.file.now c.args.end c.loop-left.at c.loop-left.left c.loop-left-test.true c.if-end-at.true))
 
 pub returns-then-end-next : goal.returns-then-end-next
 unfolding cut_at
-returns-then-end-next c = 
+returns-then-end-next c =
     rw (le-leb c.args.end (length c.args.file.now) c.if-file-end.false) (sym (c.loop-left.invariant.0 ∙ cut_here c.args.file.now c.args.end c.loop-left.at c.loop-left.left c.loop-left-test.true c.if-end-at.false (omega (arith, c.if-end-next.true, c.num.ensures.0))))
 
 pub loop-left-preserved : goal.loop-left-preserved
-loop-left-preserved c = 
+loop-left-preserved c =
     let e : field_end c.args.file.now c.loop-left.at ≡ c.loop-left.at + 3 + c.num.result = omega (arith, c.num.ensures.0) in (
       c.loop-left.invariant.0 ∙ cut_on c.args.file.now c.args.end c.loop-left.at c.loop-left.left c.loop-left-test.true c.if-end-at.false (omega (arith, e, c.if-end-next.false))
           ∙ ap (cut_from c.args.file.now c.args.end (c.loop-left.left - 1)) e,
@@ -33,5 +33,5 @@ loop-left-preserved c =
 
 pub returns : goal.returns
 unfolding cut_at
-returns c = 
+returns c =
     rw (le-leb c.args.end (length c.args.file.now) c.if-file-end.false) (sym (c.loop-left.invariant.0 ∙ cut_end c.args.file.now c.args.end c.loop-left.at c.loop-left.left (omega arith)))

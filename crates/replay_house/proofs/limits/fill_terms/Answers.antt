@@ -14,5 +14,5 @@ loop-i-preserved c = (
 )
 
 pub returns : goal.returns
-returns c = 
+returns c =
     sym (sym (sets_all (term_made c.args.wires) c.args.store.now) ∙ c.loop-i.invariant.0 ∙ sets-none-made (term_made c.args.wires) c.loop-i.store c.loop-i.i _ (omega (arith, c, c.loop-i-test.false)))

@@ -10,7 +10,7 @@ pub returns-then-two-n : goal.returns-then-two-n
 returns-then-two-n c = rw c.count-then-two-n.ensures (again_short_two c.args.seen c.args.one.now c.args.two.now c.args.t c.if-one-n.false c.if-two-n.true)
 
 pub returns : goal.returns
-returns c = 
+returns c =
     let e : c.args.seen.length - 0 ≡ c.args.seen.length = omega arith in
     let q = rw e at c.compared.ensures in
     rw (q.0, q.1) (again_is c.args.seen c.args.one.now c.args.two.now c.args.t c.if-one-n.false c.if-two-n.false)

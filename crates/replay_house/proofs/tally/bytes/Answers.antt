@@ -7,9 +7,9 @@ pub loop-i-init : goal.loop-i-init
 loop-i-init c = (refl, omega arith)
 
 pub loop-i-preserved : goal.loop-i-preserved
-loop-i-preserved c = 
+loop-i-preserved c =
     (c.loop-i.invariant.0 ∙ digest_step c.loop-i.digest c.args.file.now c.loop-i.i c.loop-i-test.true ∙ rw (c.mixed-digest.ensures, c.byte.ensures.0), omega (arith, c.loop-i-test.true))
 
 pub returns : goal.returns
-returns c = 
+returns c =
     ap (λ (d : ℕ). record { right = c.args.t.right; wrong = c.args.t.wrong; digest = d }) (sym (c.loop-i.invariant.0 ∙ digest_end c.loop-i.digest c.args.file.now c.loop-i.i c.loop-i-test.false))

@@ -17,7 +17,7 @@ pub row_mixed-requires : goal.row_mixed-requires
 row_mixed-requires c = let h = rows_small c.loop-i.i c.args.k (omega arith) (omega arith) in omega (arith, h)
 
 pub loop-i-preserved : goal.loop-i-preserved
-loop-i-preserved c = (omega arith, rows_next c.args.l.now c.args.at c.args.k c.args.start c.loop-i.i _ _ _ c.row_mixed.ensures c.loop-i.invariant.1 c.wrapping_add_u64-sum.ensures)
+loop-i-preserved c = (omega arith, rows_next c.args.l.now c.args.at c.args.k c.args.start c.loop-i.i _ _ _ c.row_mixed.ensures c.loop-i.invariant.1 c.wrapping_add_u64-sum.ensures.value)
 
 pub returns : goal.returns
 returns c = let e : c.loop-i.i ≡ c.args.rows = omega arith in rw e at c.loop-i.invariant.1

@@ -9,4 +9,4 @@ returns-then-flag-ne0 c = rw (ne_eqb _ _ c.if-flag-ne0.true)
 
 pub returns : goal.returns
 unfolding disturbed
-returns c = rw (eq-eqb _ _ c.if-flag-ne0.false, ← c.get.ensures, ← c.wrapping_add_u64-x.ensures) c.put.ensures
+returns c = rw (eq-eqb _ _ c.if-flag-ne0.false, ← c.get.ensures, ← c.wrapping_add_u64-x.ensures.value) c.put.ensures
