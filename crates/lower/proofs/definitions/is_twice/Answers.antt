@@ -13,6 +13,9 @@ use Rattle.lower.proofs.definitions.is_twice.Goals as goal
 pub loop-i-init : goal.loop-i-init
 loop-i-init c = (omega arith, length-replicate {A = ℕ} 4096 0, sym (again_none 4096 (take c.args.n c.args.dsts.now)))
 
+pub overflow_cast-d : goal.overflow_cast-d
+overflow_cast-d c = omega (arith, c.shared_slice_known-1.given c.loop-i.i)
+
 pub bounds-met-d : goal.bounds-met-d
 bounds-met-d c = part_all c.args.dsts.now c.args.n c.loop-i.i 0 c.requires.1 c.loop-i-test.true c.requires.0
 

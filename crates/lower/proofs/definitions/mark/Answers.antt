@@ -10,6 +10,9 @@ use Rattle.lower.proofs.definitions.mark.Goals as goal
 pub loop-i-init : goal.loop-i-init
 loop-i-init c = (omega arith, refl, refl)
 
+pub overflow_cast-d : goal.overflow_cast-d
+overflow_cast-d c = omega (arith, c.shared_slice_known-1.given c.loop-i.i)
+
 pub bounds-defined-d : goal.bounds-defined-d
 bounds-defined-d c = omega (arith, part_all c.args.dsts.now c.args.n c.loop-i.i 0 c.requires.1 c.loop-i-test.true c.requires.0, c.loop-i.invariant.1)
 

@@ -18,6 +18,9 @@ pub loop-i-init : goal.loop-i-init
 unfolding definitions_fault
 loop-i-init c = (omega arith, rw (le-leb _ _ c.if-dsts-count.false, le-leb _ _ c.if-rhss-count.false))
 
+pub overflow_cast-dst : goal.overflow_cast-dst
+overflow_cast-dst c = omega (arith, c.shared_slice_known-in-loop-i-1.given c.loop-i.i)
+
 pub returns-then-wires-dst : goal.returns-then-wires-dst
 returns-then-wires-dst c = sym (c.loop-i.invariant.1 ∙ pairs_dst _ _ _ _ _ _ _ c.loop-i-test.true c.if-dsts-count.false c.if-rhss-count.false c.if-wires-dst.true)
 
