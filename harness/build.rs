@@ -1,5 +1,5 @@
 //! With the feature `ours`: where the project's static library is. TIWZERAND_LIB names its folder; without it, it is where
-//! `rt staticlib tiwzerand` writes it.
+//! `bindings/archive` writes it.
 
 use std::{env, path::Path};
 

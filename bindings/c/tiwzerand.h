@@ -1,5 +1,5 @@
 /*
- * tiwzerand.h: gate fusion, proved. Link with libtiwzerand.a, which `rt staticlib tiwzerand` writes to target/staticlib.
+ * tiwzerand.h: gate fusion, proved. Link with libtiwzerand.a, which `bindings/archive` writes to target/staticlib.
  *
  * A slice is a pointer and a number of elements. Everything is lent for the call alone: nothing is allocated and nothing is kept.
  * Slices of one call do not overlap, unless none of them is written. An empty slice may have any pointer, also NULL.

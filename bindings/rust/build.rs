@@ -18,7 +18,7 @@ fn main() {
     println!("cargo:rerun-if-changed={}", archive.display());
     if !archive.is_file() {
         eprintln!(
-            "tiwzerand: {} is not there.\nRun `rt staticlib tiwzerand` in the folder of the repository, which proves the library and writes it,\nor set TIWZERAND_LIB to a folder that has libtiwzerand.a.",
+            "tiwzerand: {} is not there.\nRun `bindings/archive` in the folder of the repository, which proves the library and writes it,\nor set TIWZERAND_LIB to a folder that has libtiwzerand.a.",
             archive.display()
         );
         exit(1);
