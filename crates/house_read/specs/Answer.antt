@@ -29,12 +29,12 @@ room_of z n terms ands imuls bmuls zeros dsts rhss =
 
 -- "ROOM comes last, at the input's length"
 unfoldable pub with_room : Read → ℕ → ℕ → ℕ → ℕ → ℕ → ℕ → ℕ → ℕ → Read
-with_room (Refused number at) len terms ands imuls bmuls zeros dsts rhss = Refused number at
+with_room (Refused number at) len terms ands imuls bmuls _ dsts rhss = Refused number at
 with_room (Done z n) len terms ands imuls bmuls zeros dsts rhss =
     cond (room_of z n terms ands imuls bmuls zeros dsts rhss) (Done z n) (Refused ROOM len)
 
 unfoldable pub told_room : Read → ℕ → ℕ → ℕ → ℕ → ℕ → ℕ → ℕ → ℕ → Told
-told_room (Refused number at) len terms ands imuls bmuls zeros dsts rhss = refused_at number at
+told_room (Refused number at) len terms ands imuls bmuls _ dsts rhss = refused_at number at
 told_room (Done z n) len terms ands imuls bmuls zeros dsts rhss =
     cond (room_of z n terms ands imuls bmuls zeros dsts rhss) (given (values_read z n)) (refused_at ROOM len)
 
