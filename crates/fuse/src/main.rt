@@ -12,6 +12,7 @@ use house_write::Written;
 use report::FuseFile;
 use std::env::{Env, FillError};
 use std::io::{Cursor, Read, Write};
+use std::process::ExitCode;
 use std::{io, str};
 
 mod asked;
@@ -22,8 +23,19 @@ const MAX_READ: usize = 262145;
 // More than the lines of 4,096 wires take.
 const MAX_LINES: usize = 86016;
 
+// The status that the writing comes to: 141 where the reader has gone, as where SIGPIPE ends a program; std holds that signal back.
+fn ended(written: io::Result<()>) -> ExitCode {
+    match written {
+        Ok(()) => ExitCode::SUCCESS,
+        Err(error) => match error.kind() {
+            io::ErrorKind::BrokenPipe => ExitCode::from(141),
+            _ => ExitCode::SUCCESS,
+        },
+    }
+}
+
 // Writes a line to standard error: what failed, a colon and the system's words for the error.
-fn fail(rt: &impl Eprint, what: &str, error: &io::Error) {
+fn fail(rt: &impl Eprint, what: &str, error: &io::Error) -> ExitCode {
     let mut text = Cursor::new([0u8; 128]);
     let _ = write!(text, "{error}");
     let n = (text.position() as usize).min(128);
@@ -33,32 +45,36 @@ fn fail(rt: &impl Eprint, what: &str, error: &io::Error) {
         Some((words, _)) => words,
         None => words,
     };
-    let _ = eprintln!(rt; "{what}: {words}");
+    ended(eprintln!(rt; "{what}: {words}"))
 }
 
-fn print(rt: HostRuntime, text: &[u8]) {
-    if let Err(error) = rt.stdout().write_all(text) {
-        fail(&rt, "fuse: standard output", &error);
+fn print(rt: HostRuntime, text: &[u8]) -> ExitCode {
+    match rt.stdout().write_all(text) {
+        Ok(()) => ExitCode::SUCCESS,
+        Err(error) => match error.kind() {
+            io::ErrorKind::BrokenPipe => ended(Err(error)),
+            _ => fail(&rt, "fuse: standard output", &error),
+        },
     }
 }
 
-fn refused(rt: HostRuntime, number: u8) {
+fn refused(rt: HostRuntime, number: u8) -> ExitCode {
     let mut line = [0u8; 64];
     let Written::Done { length } = text::refused_line(number, &mut line) else {
-        return;
+        return ExitCode::SUCCESS;
     };
-    let _ = rt.stderr().write_all(&line[0..length]);
+    ended(rt.stderr().write_all(&line[0..length]))
 }
 
-fn refused_at(rt: HostRuntime, number: u8, at: usize) {
+fn refused_at(rt: HostRuntime, number: u8, at: usize) -> ExitCode {
     let mut line = [0u8; 64];
     let Written::Done { length } = text::refused_at_line(number, at, &mut line) else {
-        return;
+        return ExitCode::SUCCESS;
     };
-    let _ = rt.stderr().write_all(&line[0..length]);
+    ended(rt.stderr().write_all(&line[0..length]))
 }
 
-fn print_committed(rt: HostRuntime, flags: &[u8]) {
+fn print_committed(rt: HostRuntime, flags: &[u8]) -> ExitCode {
     let mut lines = [0u8; MAX_LINES];
     match text::committed_lines(flags, &mut lines) {
         Written::Refused { number } => refused(rt, number),
@@ -66,7 +82,13 @@ fn print_committed(rt: HostRuntime, flags: &[u8]) {
     }
 }
 
-fn print_answer(rt: HostRuntime, answer: FuseFile, out: &[u8], flags: &[u8], is_committed: bool)
+fn print_answer(
+    rt: HostRuntime,
+    answer: FuseFile,
+    out: &[u8],
+    flags: &[u8],
+    is_committed: bool,
+) -> ExitCode
     requires { Covers answer (length out.now) (length flags.now) }
 {
     match answer {
@@ -74,19 +96,19 @@ fn print_answer(rt: HostRuntime, answer: FuseFile, out: &[u8], flags: &[u8], is_
         FuseFile::Unread { number, at } => refused_at(rt, number, at),
         FuseFile::Done { length, wires } => {
             if is_committed {
-                print_committed(rt, &flags[0..wires]);
+                print_committed(rt, &flags[0..wires])
             } else {
-                print(rt, &out[0..length]);
+                print(rt, &out[0..length])
             }
         }
     }
 }
 
-fn fuse(rt: HostRuntime, input: &[u8], slots: u64, is_committed: bool) {
+fn fuse(rt: HostRuntime, input: &[u8], slots: u64, is_committed: bool) -> ExitCode {
     let mut out = [0u8; 262144];
     let mut flags = [0u8; 4096];
     let answer = report::fuse_file(input, slots, &mut out, &mut flags);
-    print_answer(rt, answer, &out, &flags, is_committed);
+    print_answer(rt, answer, &out, &flags, is_committed)
 }
 
 // Reads until `buf` is full, the input ends or a read fails, and returns how many bytes it put at the start of `buf`.
@@ -112,17 +134,16 @@ fn cut_by<R: Read>(reader: &mut R) -> Option<io::Error> {
     reader.read(&mut one).err()
 }
 
-fn run(rt: HostRuntime, slots: u64, is_committed: bool) {
+fn run(rt: HostRuntime, slots: u64, is_committed: bool) -> ExitCode {
     let mut stdin = rt.stdin();
     let mut input = [0u8; MAX_READ];
     let n = read_full(&mut stdin, &mut input);
     if n < MAX_READ {
         if let Some(error) = cut_by(&mut stdin) {
-            fail(&rt, "fuse: standard input", &error);
-            return;
+            return fail(&rt, "fuse: standard input", &error);
         }
     }
-    fuse(rt, &input[0..n], slots, is_committed);
+    fuse(rt, &input[0..n], slots, is_committed)
 }
 
 // The word `i`, the program's name being the first, at the start of `buf`: its length, or 0 where it is missing or longer than `buf`.
@@ -145,7 +166,7 @@ fn word_count(env: &impl Env) -> usize {
     n
 }
 
-fn main(rt: HostRuntime) {
+fn main(rt: HostRuntime) -> ExitCode {
     let mut first = [0u8; 16];
     let mut second = [0u8; 16];
     let n = word(&rt, 1, &mut first);
@@ -153,8 +174,6 @@ fn main(rt: HostRuntime) {
     match asked::of_words(word_count(&rt), &first[0..n], &second[0..m]) {
         Asked::File(slots) => run(rt, slots, false),
         Asked::Committed(slots) => run(rt, slots, true),
-        Asked::Usage => {
-            let _ = eprintln!(rt; "usage: fuse [1|2] [committed]");
-        }
+        Asked::Usage => ended(eprintln!(rt; "usage: fuse [1|2] [committed]")),
     }
 }

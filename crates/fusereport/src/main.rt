@@ -5,13 +5,25 @@ ghost use Rattle.std.specs.Prelude.{◌≤◌, length};
 
 use house_write::Written;
 use std::io::{Cursor, Read, Write};
+use std::process::ExitCode;
 use std::{io, str};
 
 // One more than `report` takes: a longer file is told from one that is as long as it may be.
 const MAX_READ: usize = 65537;
 
+// The status that the writing comes to: 141 where the reader has gone, as where SIGPIPE ends a program; std holds that signal back.
+fn ended(written: io::Result<()>) -> ExitCode {
+    match written {
+        Ok(()) => ExitCode::SUCCESS,
+        Err(error) => match error.kind() {
+            io::ErrorKind::BrokenPipe => ExitCode::from(141),
+            _ => ExitCode::SUCCESS,
+        },
+    }
+}
+
 // Writes a line to standard error: what failed, a colon and the system's words for the error.
-fn fail(rt: &impl Eprint, what: &str, error: &io::Error) {
+fn fail(rt: &impl Eprint, what: &str, error: &io::Error) -> ExitCode {
     let mut text = Cursor::new([0u8; 128]);
     let _ = write!(text, "{error}");
     let n = (text.position() as usize).min(128);
@@ -21,12 +33,16 @@ fn fail(rt: &impl Eprint, what: &str, error: &io::Error) {
         Some((words, _)) => words,
         None => words,
     };
-    let _ = eprintln!(rt; "{what}: {words}");
+    ended(eprintln!(rt; "{what}: {words}"))
 }
 
-fn print(rt: &(impl Print + Eprint), line: &[u8]) {
-    if let Err(error) = rt.write_all(line) {
-        fail(rt, "fusereport: standard output", &error);
+fn print(rt: &(impl Print + Eprint), line: &[u8]) -> ExitCode {
+    match rt.write_all(line) {
+        Ok(()) => ExitCode::SUCCESS,
+        Err(error) => match error.kind() {
+            io::ErrorKind::BrokenPipe => ended(Err(error)),
+            _ => fail(rt, "fusereport: standard output", &error),
+        },
     }
 }
 
@@ -53,7 +69,7 @@ fn cut_by<R: Read>(reader: &mut R) -> Option<io::Error> {
     reader.read(&mut one).err()
 }
 
-fn main(rt: HostRuntime) {
+fn main(rt: HostRuntime) -> ExitCode {
     let mut stdin = rt.stdin();
     let mut input = [0u8; MAX_READ];
     let n = read_full(&mut stdin, &mut input);
@@ -65,7 +81,7 @@ fn main(rt: HostRuntime) {
     let mut line = [0u8; 512];
     let answer = report::report(&input[0..n], &mut line);
     let Written::Done { length } = answer else {
-        return;
+        return ExitCode::SUCCESS;
     };
-    print(&rt, &line[0..length]);
+    print(&rt, &line[0..length])
 }

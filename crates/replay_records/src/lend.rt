@@ -1,5 +1,5 @@
-// The entries over records, each lent an array of them, which comes by value and, where it changes, goes back with the answer. A slice of records
-// is proved by hand and an array by value is not, so slices of them stand in these five functions alone, of one call each.
+// The entries over records, each lent an array of them, which comes by value and, where it changes, goes back with the answer. Slices of
+// records stand in these five functions alone, of one call each.
 ghost use Rattle.std.specs.Prelude.{◌≡◌, []};
 ghost use Rattle.house_read.specs.Answer.{ReadIs};
 ghost use Rattle.fusion.specs.Answer.{told_fused, Fuses};

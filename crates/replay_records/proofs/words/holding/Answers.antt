@@ -10,7 +10,7 @@ pub overflow_add-c : goal.overflow_add-c
 overflow_add-c c = omega (arith, c.holds-c.ensures.1)
 
 pub loop-i-preserved : goal.loop-i-preserved
-loop-i-preserved c = (omega arith, omega (arith, c.holds-c.ensures.1), holding_next c.args.t1 c.args.values.now c.args.at c.args.flags.now c.args.words.now c.loop-i.i _ _ _ _ refl c.get.ensures c.loop-i.invariant.2 c.holds-c.ensures.0)
+loop-i-preserved c = (omega arith, omega (arith, c.holds-c.ensures.1), holding_next c.args.defs c.args.values.now c.args.at c.args.flags.now c.args.words.now c.loop-i.i _ _ _ _ refl c.get.ensures c.loop-i.invariant.2 c.holds-c.ensures.0)
 
 pub returns : goal.returns
 returns c = let e : c.loop-i.i ≡ c.args.n = omega arith in rw e at c.loop-i.invariant.2
