@@ -23,7 +23,7 @@ fn ended(written: io::Result<()>) -> ExitCode {
 }
 
 // Writes a line to standard error: what failed, a colon and the system's words for the error.
-fn fail(rt: &impl Eprint, what: &str, error: &io::Error) -> ExitCode {
+fn fail(rt: &impl Eprint, what: &str, error: &io::Error) -> io::Result<()> {
     let mut text = Cursor::new([0u8; 128]);
     let _ = write!(text, "{error}");
     let n = (text.position() as usize).min(128);
@@ -33,7 +33,7 @@ fn fail(rt: &impl Eprint, what: &str, error: &io::Error) -> ExitCode {
         Some((words, _)) => words,
         None => words,
     };
-    ended(eprintln!(rt; "{what}: {words}"))
+    eprintln!(rt; "{what}: {words}")
 }
 
 fn print(rt: &(impl Print + Eprint), line: &[u8]) -> ExitCode {
@@ -41,7 +41,7 @@ fn print(rt: &(impl Print + Eprint), line: &[u8]) -> ExitCode {
         Ok(()) => ExitCode::SUCCESS,
         Err(error) => match error.kind() {
             io::ErrorKind::BrokenPipe => ended(Err(error)),
-            _ => fail(rt, "fusereport: standard output", &error),
+            _ => ended(fail(rt, "fusereport: standard output", &error)),
         },
     }
 }
@@ -75,7 +75,12 @@ fn main(rt: HostRuntime) -> ExitCode {
     let n = read_full(&mut stdin, &mut input);
     if n < MAX_READ {
         if let Some(error) = cut_by(&mut stdin) {
-            fail(&rt, "fusereport: standard input", &error);
+            if let Err(gone) = fail(&rt, "fusereport: standard input", &error) {
+                match gone.kind() {
+                    io::ErrorKind::BrokenPipe => return ended(Err(gone)),
+                    _ => {}
+                }
+            }
         }
     }
     let mut line = [0u8; 512];
