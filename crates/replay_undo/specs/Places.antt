@@ -10,7 +10,7 @@
 --   same_rows            how many numbers these rows have, where both lists come to the same two sums, else 0
 --
 -- Assumes nothing.
-use Rattle.std.specs.Prelude.{ℕ, zero, suc, ◌+◌, ◌-◌, ◌*◌, ◌%◌, ◌^◌, cond, ◌&&◌, List, [], length, ◌==◌, bit_xor, nat_le, slice_index, slice_range}
+use Rattle.std.specs.Prelude.{ℕ, zero, suc, ◌+◌, ◌*◌, ◌%◌, ◌^◌, cond, ◌&&◌, List, [], length, ◌==◌, bit_xor, nat_le, slice_index, slice_range}
 
 abbrev pub least_of : ℕ → ℕ → ℕ
 least_of a b = cond (nat_le b a) b a

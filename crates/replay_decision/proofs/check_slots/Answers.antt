@@ -1,5 +1,5 @@
 -- One call after the other. Assumes nothing.
-use Rattle.std.proofs.Common.{◌≡◌, ◌-◌, arith}
+use Rattle.std.proofs.Common.{◌≡◌, arith}
 use Rattle.replay_decision.specs.Replay.{none}
 use Rattle.replay_decision.proofs.Calls.{slots_next}
 use Rattle.replay_decision.proofs.check_slots.Goals as goal

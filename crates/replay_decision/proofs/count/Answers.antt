@@ -1,5 +1,5 @@
 -- One place after the other. Assumes nothing.
-use Rattle.std.proofs.Common.{◌≡◌, ℕ, ◌-◌, arith}
+use Rattle.std.proofs.Common.{◌≡◌, ℕ, arith}
 use Rattle.replay_decision.proofs.Turns.{turns-none, count_next}
 use Rattle.replay_decision.proofs.count.Goals as goal
 

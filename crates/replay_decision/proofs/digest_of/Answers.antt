@@ -1,5 +1,5 @@
 -- One number after the other. Assumes nothing.
-use Rattle.std.proofs.Common.{◌≡◌, ℕ, ◌-◌, arith}
+use Rattle.std.proofs.Common.{◌≡◌, ℕ, arith}
 use Rattle.replay_decision.proofs.Turns.{turns-none, digest_next}
 use Rattle.replay_decision.proofs.digest_of.Goals as goal
 

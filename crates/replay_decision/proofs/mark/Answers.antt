@@ -1,5 +1,5 @@
 -- One definition after the other. Assumes nothing.
-use Rattle.std.proofs.Common.{◌≡◌, ℕ, ◌-◌, List, refl, arith, rules}
+use Rattle.std.proofs.Common.{◌≡◌, ℕ, List, refl, arith, rules}
 use Rattle.replay_decision.proofs.Turns.{turns-none, marks_next}
 use Rattle.replay_decision.proofs.mark.Goals as goal
 

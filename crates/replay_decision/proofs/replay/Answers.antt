@@ -1,5 +1,5 @@
 -- One vector after the other. Assumes nothing.
-use Rattle.std.proofs.Common.{◌-◌, arith}
+use Rattle.std.proofs.Common.{arith}
 use Rattle.replay_decision.specs.Replay.{begun}
 use Rattle.replay_decision.proofs.Calls.{vector_next}
 use Rattle.replay_decision.proofs.replay.Goals as goal

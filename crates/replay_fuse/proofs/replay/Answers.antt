@@ -1,6 +1,6 @@
 -- One vector after the other. Assumes nothing.
 use Rattle.replay_fuse.proofs.Calls.{vector_first, vector_next}
-use Rattle.std.proofs.Common.{◌-◌, arith}
+use Rattle.std.proofs.Common.{arith}
 use Rattle.replay_fuse.proofs.replay.Goals as goal
 
 pub loop-at-init : goal.loop-at-init

@@ -1,4 +1,4 @@
-use Rattle.std.proofs.Common.{◌≡◌, ◌-◌, length}
+use Rattle.std.proofs.Common.{◌≡◌, length}
 use Rattle.replay_house.specs.Replay.{number_at, state_of, vectors_of}
 use Rattle.replay_house.proofs.vectors.Given as goal
 

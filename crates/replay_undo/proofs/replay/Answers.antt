@@ -1,5 +1,5 @@
 -- One vector after the other. Assumes nothing.
-use Rattle.std.proofs.Common.{◌-◌, arith}
+use Rattle.std.proofs.Common.{arith}
 use Rattle.replay_undo.proofs.Calls.{vector_first, vector_next}
 use Rattle.replay_undo.proofs.replay.Goals as goal
 

@@ -1,6 +1,6 @@
 -- One assignment after the other. Assumes nothing.
 use Rattle.replay_undo.specs.Replay.{none, more}
-use Rattle.std.proofs.Common.{◌≡◌, ◌-◌, arith}
+use Rattle.std.proofs.Common.{◌≡◌, arith}
 use Rattle.replay_undo.proofs.replay_vector.Goals as goal
 
 pub loop-kind-init : goal.loop-kind-init

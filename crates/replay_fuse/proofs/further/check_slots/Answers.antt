@@ -1,7 +1,7 @@
 -- One call after the other. Assumes nothing.
 use Rattle.replay_fuse.proofs.Calls.{slots_next}
 use Rattle.replay_fuse.specs.Further.{none}
-use Rattle.std.proofs.Common.{◌≡◌, ◌-◌, arith}
+use Rattle.std.proofs.Common.{◌≡◌, arith}
 use Rattle.replay_fuse.proofs.further.check_slots.Goals as goal
 
 pub loop-i-init : goal.loop-i-init

@@ -1,6 +1,6 @@
 -- One place after the other. Assumes nothing.
 use Rattle.replay_fuse.proofs.Turns.{turns-none, count_next}
-use Rattle.std.proofs.Common.{◌≡◌, ℕ, ◌-◌, arith}
+use Rattle.std.proofs.Common.{◌≡◌, ℕ, arith}
 use Rattle.replay_fuse.proofs.places.count_numbers.Goals as goal
 
 pub loop-i-init : goal.loop-i-init

@@ -1,4 +1,4 @@
-use Rattle.std.proofs.Common.{◌≡◌, ◌-◌, ◌≤◌}
+use Rattle.std.proofs.Common.{◌≡◌, ◌≤◌}
 use Rattle.replay_house.specs.Replay.{cut_from}
 use Rattle.replay_house.proofs.limits.cut_field.Given as goal
 

@@ -1,5 +1,5 @@
 -- The two are the same where what is left of them is. Assumes nothing.
-use Rattle.std.proofs.Common.{◌-◌, sym, refl, ◌∙◌, arith}
+use Rattle.std.proofs.Common.{sym, refl, ◌∙◌, arith}
 use Rattle.replay_house.proofs.Made.{same_lengths, same_stop, same_go, same_end}
 use Rattle.replay_house.proofs.pass.equal.Goals as goal
 

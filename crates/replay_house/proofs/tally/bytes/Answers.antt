@@ -1,5 +1,5 @@
 -- The digest of all bytes is that of those that are left. Assumes nothing.
-use Rattle.std.proofs.Common.{ℕ, ◌-◌, sym, refl, ap, ◌∙◌, arith}
+use Rattle.std.proofs.Common.{ℕ, sym, refl, ap, ◌∙◌, arith}
 use Rattle.replay_house.proofs.Made.{digest_step, digest_end}
 use Rattle.replay_house.proofs.tally.bytes.Goals as goal
 

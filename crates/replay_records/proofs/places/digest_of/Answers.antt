@@ -1,6 +1,6 @@
 -- One byte after the other. Assumes nothing.
 use Rattle.replay_records.proofs.Turns.{turns-none, digest_next}
-use Rattle.std.proofs.Common.{◌≡◌, ℕ, ◌-◌, length, arith}
+use Rattle.std.proofs.Common.{◌≡◌, ℕ, length, arith}
 use Rattle.replay_records.proofs.places.digest_of.Goals as goal
 
 pub loop-i-init : goal.loop-i-init

@@ -1,5 +1,5 @@
 -- One definition after the other. Assumes nothing.
-use Rattle.std.proofs.Common.{◌≡◌, ℕ, ◌-◌, refl, arith}
+use Rattle.std.proofs.Common.{◌≡◌, ℕ, refl, arith}
 use Rattle.replay_records.proofs.Turns.{turns-none, holding_next}
 use Rattle.replay_records.proofs.words.holding.Goals as goal
 

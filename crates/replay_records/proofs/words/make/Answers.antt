@@ -1,5 +1,5 @@
 -- One word after the other. Assumes nothing.
-use Rattle.std.proofs.Common.{◌≡◌, ℕ, ◌-◌, List, length, refl, ◌∙◌, arith, length-set}
+use Rattle.std.proofs.Common.{◌≡◌, ℕ, List, length, refl, ◌∙◌, arith, length-set}
 use Rattle.replay_records.proofs.Turns.{turns-none, make_next}
 use Rattle.replay_records.proofs.words.make.Goals as goal
 

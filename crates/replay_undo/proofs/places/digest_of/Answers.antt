@@ -1,6 +1,6 @@
 -- One number after the other. Assumes nothing.
 use Rattle.replay_undo.proofs.Turns.{turns-none, digest_next}
-use Rattle.std.proofs.Common.{◌≡◌, ℕ, ◌-◌, arith}
+use Rattle.std.proofs.Common.{◌≡◌, ℕ, arith}
 use Rattle.replay_undo.proofs.places.digest_of.Goals as goal
 
 pub loop-i-init : goal.loop-i-init

@@ -1,7 +1,7 @@
 -- One number after the other. Assumes nothing.
 use Rattle.replay_undo.proofs.Turns.{turns-none, row_next}
 use Rattle.replay_undo.specs.Places.{mixed}
-use Rattle.std.proofs.Common.{◌≡◌, ℕ, ◌-◌, ap, ◌∙◌, arith}
+use Rattle.std.proofs.Common.{◌≡◌, ℕ, ap, ◌∙◌, arith}
 use Rattle.replay_undo.proofs.places.row_mixed.Goals as goal
 
 pub loop-i-init : goal.loop-i-init

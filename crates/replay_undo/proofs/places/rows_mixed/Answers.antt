@@ -1,7 +1,7 @@
 -- One row after the other. Assumes nothing.
 use Rattle.replay_undo.proofs.Parts.{rows_small}
 use Rattle.replay_undo.proofs.Turns.{turns-none, rows_next}
-use Rattle.std.proofs.Common.{◌≡◌, ℕ, ◌-◌, arith}
+use Rattle.std.proofs.Common.{◌≡◌, ℕ, arith}
 use Rattle.replay_undo.proofs.places.rows_mixed.Goals as goal
 
 pub loop-i-init : goal.loop-i-init

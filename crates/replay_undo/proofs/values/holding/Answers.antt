@@ -1,6 +1,6 @@
 -- One definition after the other. Assumes nothing.
 use Rattle.replay_undo.proofs.Turns.{turns-none, holding_next}
-use Rattle.std.proofs.Common.{◌≡◌, ℕ, ◌-◌, arith}
+use Rattle.std.proofs.Common.{◌≡◌, ℕ, arith}
 use Rattle.replay_undo.proofs.values.holding.Goals as goal
 
 pub loop-i-init : goal.loop-i-init

@@ -1,6 +1,6 @@
 -- One definition after the other. Assumes nothing.
 use Rattle.replay_undo.proofs.Turns.{turns-none, lay_next}
-use Rattle.std.proofs.Common.{◌≡◌, ℕ, ◌-◌, List, refl, arith}
+use Rattle.std.proofs.Common.{◌≡◌, ℕ, List, refl, arith}
 use Rattle.replay_undo.proofs.words.lay_flags.Goals as goal
 
 pub loop-i-init : goal.loop-i-init

@@ -1,6 +1,6 @@
 -- One word after the other. Assumes nothing.
 use Rattle.replay_undo.proofs.Turns.{turns-none, make_next}
-use Rattle.std.proofs.Common.{◌≡◌, ℕ, ◌-◌, List, length, refl, ◌∙◌, arith, length-set}
+use Rattle.std.proofs.Common.{◌≡◌, ℕ, List, length, refl, ◌∙◌, arith, length-set}
 use Rattle.replay_undo.proofs.words.make.Goals as goal
 
 pub loop-i-init : goal.loop-i-init
