@@ -1,4 +1,3 @@
 pub mod Ors
 pub mod Pulls
 pub mod Living
-pub mod Backs

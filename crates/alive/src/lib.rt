@@ -2,7 +2,7 @@
 // what expansion would find out term by term.
 #![tactic(auto)]
 
-ghost use Rattle.std.specs.Prelude.{◌≡◌, ◌+◌, ◌*◌, ◌^◌, ◌<◌};
+ghost use Rattle.std.specs.Prelude.{◌≡◌, ◌<◌};
 ghost use Rattle.word.specs.Word.{halves};
 ghost use Rattle.shift.specs.Shifts.{Valid, width_of};
 ghost use Rattle.alive.specs.Masks.{back, pulled_back, pulled};
@@ -10,42 +10,31 @@ ghost use Rattle.alive.specs.Masks.{back, pulled_back, pulled};
 use shift::{Shift, ShiftVariant};
 
 // An arithmetic shift copies the top bit to where the mask may ask for it more than once.
+#[tactic(auto, unfolding(crate::specs::Masks::back))]
 fn sar_back(m: u64, n: u32) -> u64
     requires { n < 64 }
     ensures { result ≡ back 64 n m }
 {
-    let moved = m << n;
-    if m >> (63 - n) == 0 {
-        return moved | 0;
-    }
-    moved | 0x8000_0000_0000_0000
+    let top = if m >> (63 - n) == 0 {
+        0
+    } else {
+        0x8000_0000_0000_0000
+    };
+    (m << n) | top
 }
 
-fn half_back(h: u64, n: u32) -> u64
-    requires { (h < 2 ^ 32) × (n < 32) }
-    ensures { (result ≡ back 32 n h) × (result < 2 ^ 32) }
-{
-    let moved = (h << n) % 0x1_0000_0000;
-    if h >> (31 - n) == 0 {
-        return moved | 0;
-    }
-    moved | 0x8000_0000
-}
-
-fn join(hi: u64, lo: u64) -> u64
-    requires { (hi < 2 ^ 32) × (lo < 2 ^ 32) }
-    ensures { result ≡ hi * 2 ^ 32 + lo }
-{
-    (hi << 32) | lo
-}
-
-fn sra32_back(m: u64, n: u32) -> u64
+// The same of a half.
+// Kept: a twin, since a function over both types of number would be no plainer: it needs a trait for the two masks.
+#[tactic(auto, unfolding(crate::specs::Masks::back))]
+fn half_back(h: u32, n: u32) -> u32
     requires { n < 32 }
-    ensures { result ≡ halves (back 32 n) m }
+    ensures { result ≡ back 32 n h }
 {
-    join(half_back(m >> 32, n), half_back(m % 0x1_0000_0000, n))
+    let top = if h >> (31 - n) == 0 { 0 } else { 0x8000_0000 };
+    (h << n) | top
 }
 
+#[tactic(auto, unfolding(crate::specs::Masks::pulled_back))]
 fn pull_back(v: ShiftVariant, n: u32, m: u64) -> u64
     requires { n < width_of v }
     ensures { result ≡ pulled_back v n m }
@@ -60,6 +49,14 @@ fn pull_back(v: ShiftVariant, n: u32, m: u64) -> u64
         ShiftVariant::Sra32 => sra32_back(m, n),
         ShiftVariant::Rotr32 => word::valid::rotr32(m, (32 - n) % 32),
     }
+}
+
+#[tactic(auto, unfolding(word::specs::Word::halves))]
+fn sra32_back(m: u64, n: u32) -> u64
+    requires { n < 32 }
+    ensures { result ≡ halves (back 32 n) m }
+{
+    word::valid::by_halves(m, |h| half_back(h, n))
 }
 
 // The bits of a word that the shift moves to some bit of the mask.

@@ -1,12 +1,11 @@
 -- Runs of stores, one after the other, and what is read past them. Assumes nothing.
 use mathlib.Core.Path.{◌≡◌, refl, sym, ap, ◌∙◌}
-use Prim.Native.Nat.{ℕ, suc, ◌+◌, ◌≤◌, ◌<◌}
+use Prim.Native.Nat.{ℕ, suc, ◌+◌, ◌≤◌}
 use mathlib.Core.Bool.{Bool, true, false, not}
 use mathlib.Core.List.{List, [], ◌∷◌, ◌++◌, map}
 use native.Mathlib.Omega.{arith}
-use native.Mathlib.Numerals.{add-one}
-use lib.ListN.{length, get_or, set, take, drop, length-drop}
-use lib.Seq.{sets, take-suc, get_or-drop, get_or-set_other, drop-set-lt, length-take-le}
+use lib.ListN.{length, get_or, set, take, drop}
+use lib.Seq.{sets, sets-eq, paste, get_or-set_other, drop-set-lt, length-take-le}
 use Rattle.operand.specs.Numbers.{operand_of}
 use Rattle.patch.specs.Spelling.{row_names}
 use Rattle.patch.proofs.Writing.{sets_both}
@@ -23,18 +22,11 @@ pub get_past : (l : List ℕ) (n p : ℕ) (xs : List ℕ) → n + length xs ≤ 
 get_past l n p [] h = refl
 get_past l n p (x ∷ xs) h = get_past (set l n x) (suc n) p xs (omega (arith, h)) ∙ get_or-set_other l n p x 0 (λ e. omega (arith, h, e))
 
--- the first i from the place b on, and one more
-module _ (f : List ℕ) (b i : ℕ) (h : b + i < length f) where
-  pub part_length : length (take i (drop b f)) ≡ i
-  part_length = length-take-le i (drop b f) (omega (arith, h, length-drop b f))
-
-  part_more : take (i + 1) (drop b f) ≡ take i (drop b f) ++ (get_or f (b + i) 0 ∷ [])
-  part_more = rw (add-one, take-suc (drop b f) i 0 (omega (arith, h, length-drop b f)), get_or-drop b f i 0)
-
-  pub copy_step : (l : List ℕ) (at : ℕ) → set (sets l at (take i (drop b f))) (at + i) (get_or f (b + i) 0) ≡ sets l at (take (i + 1) (drop b f))
-  copy_step l at =
-      sets_next l at (at + i) (take i (drop b f)) (get_or f (b + i) 0 ∷ []) (omega (arith, part_length))
-      ∙ ap (sets l at) (sym part_more)
+-- a part written over is a run of stores
+pub paste_sets : (l : List ℕ) (at : ℕ) (s : List ℕ) (n : ℕ) → at + n ≤ length l → n ≤ length s → paste l at s n ≡ sets l at (take n s)
+paste_sets l at s n h k =
+    let e : length (take n s) ≡ n = length-take-le n s k in
+    sym (sets-eq (take n s) l at (omega (arith, h, e)) ∙ ap (λ (m : ℕ). take at l ++ take n s ++ drop (at + m) l) e)
 
 -- ---- what is kept of one row
 

@@ -33,10 +33,6 @@ slots_right slots e = low (eqb slots 1) (eqb slots 2) (unless_holds (eqb slots 1
     low false false h p q = let x : ◌≡◌ {A = ℕ} 0 1 = cc in absurd (omega arith)
 
 module _ (slots : ℕ) (z : Sizes) (s : Stores) where
-  pub fault_memory : (memory_fault 8192 z s ≡ 0 → ⊥) → memory_fault 8192 z s ≡ decision_fault slots z s
-  unfolding decision_fault
-  fault_memory h = sym (else_some (memory_fault 8192 z s) _ h)
-
   module _ (e : memory_fault 8192 z s ≡ 0) where
     pub fault_slots : (slots_fault slots ≡ 0 → ⊥) → slots_fault slots ≡ decision_fault slots z s
     unfolding decision_fault

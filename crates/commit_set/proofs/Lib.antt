@@ -1,4 +1,3 @@
-pub mod Adding
 pub mod Packing
 pub mod Bounds
 pub mod Seeking
@@ -17,7 +16,6 @@ pub mod PerUse
 pub mod Examples
 pub mod Samples
 pub mod Storing
-pub mod Concluding
 pub mod Joining
 pub mod Searching
 pub mod Ordering
@@ -25,4 +23,5 @@ pub mod Stepping
 pub mod Deciding
 pub mod Preparing
 pub mod Answers
+pub mod Remaining
 pub mod Theorem

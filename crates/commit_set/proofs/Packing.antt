@@ -41,8 +41,3 @@ decision_back (Inline c) p =
     let n = context_number c in
     let h : (1 + 2 * n) / 2 ≡ n = omega arith in
     rw (ne_eqb (1 + 2 * n) 0 (λ e. omega arith), h, context-back c p)
-
-pub context_small : (c : CommitSetCx) → ContextPacks c → context_number c < 1125899906842624
-context_small c packs =
-    let p = packs.runs_pack in
-    omega (arith, p.count_few, run_small c.shifts.first p.first_packs, run_small c.shifts.second p.second_packs, packs.depth_low)

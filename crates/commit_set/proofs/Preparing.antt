@@ -1,9 +1,10 @@
 -- What the program makes of a system in stores is what deciding needs. Assumes nothing.
-use mathlib.Core.Path.{◌≡◌, sym, subst}
+use mathlib.Core.Path.{◌≡◌, sym, ap, ◌∙◌, subst}
 use Prim.Native.Nat.{ℕ, zero, suc, ◌+◌, ◌≤◌, ◌<◌}
-use mathlib.Core.List.{List, [], ◌∷◌, ◌++◌, map}
+use mathlib.Core.List.{List, [], ◌∷◌, ◌++◌, map, Memᴰ}
+use mathlib.Core.Bool.{false}
 use native.Mathlib.Omega.{arith}
-use lib.ListN.{length, get_or, replicate, length-replicate, length-append}
+use lib.ListN.{length, get_or, take, replicate, length-replicate, length-append}
 use Rattle.shift.proofs.Numbers.{valid-low}
 use Rattle.operand.specs.Numbers.{Term, Operand}
 use Rattle.lower.specs.declared.Sizes.{Sizes}
@@ -16,11 +17,13 @@ use Rattle.lower.proofs.Laws.{all_imp, terms_model}
 use Rattle.lower.proofs.Checks.{checked, placed, memory_places, memory_terms, memory_definitions}
 use Rattle.lower.proofs.Explains.{standing_right}
 use Rattle.legraph.specs.Uses.{no_definition, uses_of, dst_of, rhs_of}
-use Rattle.legraph.specs.Tables.{graph, note_all}
+use Rattle.legraph.specs.Tables.{numbered, graph, note_all}
 use Rattle.legraph.proofs.Listing.{Listed, Holds, table_of, uses_right}
-use Rattle.legraph.proofs.Theorem.{count, small, rhs_same, all_there}
-use Rattle.commit_set.specs.Steps.{held}
-use Rattle.commit_set.proofs.Deciding.{Prepared}
+use Rattle.legraph.proofs.Theorem.{count, small, rhs_same, table_made, all_there}
+use Rattle.commit_set.specs.Answer.{Solution}
+use Rattle.commit_set.specs.Orders.{InOrder}
+use Rattle.commit_set.specs.Steps.{held, decided_from, Ready}
+use Rattle.commit_set.proofs.Deciding.{Prepared, ready_solution}
 
 rhs_part : (ds : List Definition) (d : ℕ) → length (get_or ds d no_definition).rhs ≤ length (joined (map (λ (x : Definition). x.rhs) ds))
 rhs_part [] d = omega arith
@@ -54,7 +57,7 @@ module _ (z : Sizes) (s : Stores) (e : memory_fault 8192 z s ≡ 0) (once : Once
   rhs_few d = omega (arith, rhs_part p.linears d, joined_length (row_operands p) (definition_operands p), few)
 
   -- the graph that the program has made
-  pub prepared : (first us : List ℕ) (n : ℕ) → length first ≡ 1024 → length us ≡ 8192 → graph first us n ≡ note_all (table_of 4096 p) p (graph (replicate 1024 0) (replicate 8192 0) 0)
+  prepared : (first us : List ℕ) (n : ℕ) → length first ≡ 1024 → length us ≡ 8192 → graph first us n ≡ note_all (table_of 4096 p) p (graph (replicate 1024 0) (replicate 8192 0) 0)
       → Prepared p (held s.old s.new s.rhss first us)
   prepared first us n a b made =
       let g : Holds (length p.linears) (λ d. uses_of p (dst_of p d)) (graph first us n) = subst (Holds (length p.linears) (λ d. uses_of p (dst_of p d))) (sym made) graphed.holds in
@@ -68,3 +71,16 @@ module _ (z : Sizes) (s : Stores) (e : memory_fault 8192 z s ≡ 0) (once : Once
         right_sides = omega (arith, there.rhss_there, count z s e);
         stand = λ d k. (all_there z s e d (omega (arith, k, count z s e))).2;
       }
+
+  -- all that is to be decided is ready, and what is decided solves
+  pub ready_made : (slots : ℕ) (first us table : List ℕ) (n : ℕ) (order l : List ℕ) → length first ≡ length (replicate {A = ℕ} 1024 0) → length us ≡ length (replicate {A = ℕ} 8192 0)
+      → table ≡ numbered 0 (take z.linears s.dsts) (replicate 4096 0)
+      → graph first us n ≡ note_all table p (graph (replicate 1024 0) (replicate 8192 0) 0)
+      → InOrder p (λ d. false) order
+      → ((d : ℕ) → Memᴰ d order → d < z.linears) × (length order < 65536) × (z.linears ≤ length l)
+      → Ready slots (held s.old s.new s.rhss first us) order l × Solution slots p l (decided_from slots (held s.old s.new s.rhss first us) order l)
+  ready_made slots first us table n order l a b t made o within =
+      let k = count z s e in
+      ready_solution slots p (held s.old s.new s.rhss first us)
+      (prepared first us n (a ∙ length-replicate {A = ℕ} 1024 0) (b ∙ length-replicate {A = ℕ} 8192 0) (made ∙ ap (λ (x : List ℕ). note_all x p (graph (replicate 1024 0) (replicate 8192 0) 0)) (t ∙ table_made z s e)))
+      l (omega (arith, k, within.2)) order o (λ d m. omega (arith, k, within.0 d m)) (omega (arith, within.1))

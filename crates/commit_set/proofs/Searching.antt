@@ -1,41 +1,30 @@
--- What the search reads: shifts, contexts of uses, and sums. Assumes nothing.
+-- What the search finds, one sum after the other, and that it decides. Assumes nothing.
 use mathlib.Core.Path.{◌≡◌, refl, sym, ap, ◌∙◌}
-use Prim.Native.Nat.{ℕ, zero, suc, ◌+◌, ◌-◌, ◌/◌, ◌%◌, ◌≤◌}
+use Prim.Native.Nat.{ℕ, ◌+◌}
 use mathlib.Core.Bool.{Bool, true, false, ◌||◌}
 use mathlib.Core.List.{List, [], ◌∷◌}
 use native.Mathlib.Omega.{arith}
 use lib.Dec.{ltb}
-use lib.ListN.{length, drop, get_or-eq_default}
-use Rattle.shift.specs.declared.ShiftVariant.{ShiftVariant}
-use Rattle.shift.specs.declared.ShiftVariant.TheVariants.{Sll, Slr, Sar, Rotr, Sll32, Srl32, Sra32, Rotr32}
+use lib.ListN.{length, drop}
 use Rattle.shift.specs.declared.Shift.{Shift}
-use Rattle.shift.specs.Shifts.{shift_at, by}
-use Rattle.legraph.specs.Tables.{use_at, user_at}
 use Rattle.commit_set.specs.declared.CommitSetCx.{CommitSetCx}
-use Rattle.commit_set.specs.declared.Decision.{Decision}
-use Rattle.commit_set.specs.Runs.{plus, fresh, join, join_all}
-use Rattle.commit_set.specs.Decision.{below, context_by, context_of, some_over, commits, decide}
+use Rattle.commit_set.specs.declared.Decision.TheVariants.{Commit}
+use Rattle.commit_set.specs.Runs.{plus, join, join_all}
+use Rattle.commit_set.specs.Decision.{some_over, commits, decide}
 use Rattle.commit_set.specs.Grounds.{concluded}
-use Rattle.commit_set.proofs.Seeking.{terms_over, none_over, all_many}
-use Rattle.commit_set.proofs.Concluding.{concluded_decides, at_slots}
+use Rattle.commit_set.proofs.Seeking.{terms_over, none_over, all_many, sought_commits}
 use Rattle.commit_set.proofs.Joining.{join_end}
 
--- past the eight variants
-pub far_shift : (n : ℕ) → 512 ≤ n → by Sll (n % 64) ≡ shift_at n
-far_shift n h = ap (λ (v : ShiftVariant). by v (n % 64)) (sym (get_or-eq_default (Sll ∷ Slr ∷ Sar ∷ Rotr ∷ Sll32 ∷ Srl32 ∷ Sra32 ∷ Rotr32 ∷ []) Sll {n = n / 64} (omega arith)))
+-- where a sum is over the slots
+at_slots : (over many : Bool) (c : CommitSetCx) (t u : ℕ) → over ≡ true → Commit ≡ concluded over many c t u
+unfolding concluded
+at_slots over many c t u h = rw h
 
-module _ (st : ℕ → Decision) (u : ℕ) where
-  pub in_constraint : u / 65536 % 65536 ≡ 0 → fresh (shift_at (u % 65536)) ≡ context_of st (use_at u)
-  in_constraint e = rw e
-
-  in_user : (k : ℕ) (s : Shift) → (k ≡ 0 → ⊥) → below (st (k - 1)) s ≡ context_by st (user_at k) s
-  in_user zero s h = absurd (h refl)
-  in_user (suc k) s h =
-      let e : suc k - 1 ≡ k = omega arith in
-      ap (λ (i : ℕ). below (st i) s) e
-
-  pub in_definition : (u / 65536 % 65536 ≡ 0 → ⊥) → below (st (u / 65536 % 65536 - 1)) (shift_at (u % 65536)) ≡ context_of st (use_at u)
-  in_definition h = in_user (u / 65536 % 65536) (shift_at (u % 65536)) h
+-- the decision
+concluded_decides : (slots : ℕ) (cs : List CommitSetCx) (ss : List Shift) (over many : Bool)
+    → over ≡ some_over slots cs ss → (over ≡ false → many ≡ some_over 1 cs ss) → concluded over many (join_all cs) (length ss) (length cs) ≡ decide slots cs ss
+unfolding concluded decide
+concluded_decides slots cs ss over many e h = rw (sought_commits slots cs ss over many e h)
 
 -- one more sum: m is whether one before had more than one run
 pub one_more : (c : CommitSetCx) (ss : List Shift) (j : ℕ) (s : Shift) → drop j ss ≡ s ∷ drop (j + 1) ss → {r : ℕ} → r ≡ (plus c.shifts s).len

@@ -20,10 +20,6 @@ use Rattle.commit_set.specs.Decision.{MAX_TERM_GROWTH, shifts_of, term_over, som
 abbrev pub terms_over : ℕ → CommitSetCx → List Shift → Bool
 terms_over n c ss = some_of (term_over n c) ss
 
-or_true : (a b : Bool) → (a || (true || b)) ≡ true
-or_true true b = refl
-or_true false b = refl
-
 or_end : (a : Bool) → (a || false) ≡ a
 or_end true = refl
 or_end false = refl
@@ -53,16 +49,6 @@ module _ (c : CommitSetCx) (ss : List Shift) (j : ℕ) (s : Shift) (e : drop j s
   hit n x y h k =
       let z : terms_over n c (drop j ss) ≡ true = here n ∙ rw (lt-ltb n r h) in
       k ∙ ap (λ (b : Bool). b || y) z
-
-  pub more : (m m' x y : Bool) → 1 < r → m' ≡ true → (m || (terms_over 1 c (drop j ss) || y)) ≡ x → (m' || (terms_over 1 c (drop (j + 1) ss) || y)) ≡ x
-  more m m' x y h q k =
-      let z : terms_over 1 c (drop j ss) ≡ true = here 1 ∙ rw (lt-ltb 1 r h) in
-      rw q (sym (or_true m y) ∙ ap (λ (b : Bool). m || (b || y)) (sym z) ∙ k)
-
-  pub same : (m m' x y : Bool) → r ≤ 1 → m' ≡ m → (m || (terms_over 1 c (drop j ss) || y)) ≡ x → (m' || (terms_over 1 c (drop (j + 1) ss) || y)) ≡ x
-  same m m' x y h q k =
-      let z : terms_over 1 c (drop j ss) ≡ terms_over 1 c (drop (j + 1) ss) = here 1 ∙ rw (le-ltb 1 r h) in
-      rw q (ap (λ (b : Bool). m || (b || y)) (sym z) ∙ k)
 
 -- the terms as numbers
 pub shift_at_lem : (ts : List ℕ) (j : ℕ) → j < length ts

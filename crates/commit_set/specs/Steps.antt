@@ -2,6 +2,7 @@
 --
 --   decide_in .. l d     the decision of d, by the lists of uses and the decisions in the store l
 --   decided_from .. ds l the store l after the definitions ds, each decided when its turn comes
+--   held_by x            what the lists x of `steps` hold
 --   Ready .. ds l       what is needed on the way: each definition has its right side, its list of uses and its place, and its decision is
 --                       within the bits of its number
 --
@@ -11,6 +12,7 @@ use Rattle.lower.specs.Stores.{Stands}
 use Rattle.legraph.specs.Tables.{listed, Linked}
 use Rattle.legraph.specs.Walked.{rhs_in}
 use Rattle.commit_set.specs.declared.Decision.{Decision}
+use Rattle.commit_set.specs.declared.steps.UseLists.{UseLists}
 use Rattle.commit_set.specs.Decision.{context_of, shifts_of, decide}
 use Rattle.commit_set.specs.Numbers.{decision_number, state_at, Packs}
 
@@ -24,6 +26,9 @@ pub record Held : Type 0 where
 
 abbrev pub held : List ℕ → List ℕ → List ℕ → List ℕ → List ℕ → Held
 held old new rhss first uses = record { old = old; new = new; rhss = rhss; first = first; uses = uses }
+
+abbrev pub held_by : UseLists → Held
+held_by x = held x.stores.old.now x.stores.new.now x.rhss.now x.first.now x.uses.now
 
 unfoldable pub decide_in : ℕ → Held → List ℕ → ℕ → Decision
 decide_in slots h l d =

@@ -25,41 +25,40 @@ fn context_number(cx: CommitSetCx) -> u64
     requires { ContextPacks cx }
     ensures { result ≡ context_number cx }
 {
-    let path = cx.shifts;
-    let first = run_number(path.first);
-    let second = run_number(path.second);
-    path.len as u64 + 4 * first + 262144 * second + 17179869184 * cx.depth as u64
+    let runs = cx.shifts;
+    runs.len as u64
+        + 4 * run_number(runs.first)
+        + 262144 * run_number(runs.second)
+        + 17179869184 * cx.depth as u64
 }
 
 fn context_at(n: u64) -> CommitSetCx
     ensures { result ≡ context_at n }
 {
-    let first = run_at(n / 4);
-    let second = run_at(n / 262144);
-    let shifts = ShiftSummary {
-        first,
-        second,
-        len: (n % 4) as u8,
-    };
     CommitSetCx {
-        shifts,
+        shifts: ShiftSummary {
+            first: run_at(n / 4),
+            second: run_at(n / 262144),
+            len: (n % 4) as u8,
+        },
         depth: (n / 17179869184) as usize,
     }
 }
 
 // The context of a term with `shift` of a definition whose decision stands in a store as the number `n`.
+#[tactic(auto, unfolding(crate::specs::Numbers::decision_at))]
 pub fn context_below(n: u64, shift: Shift) -> CommitSetCx
     ensures { result ≡ below (decision_at n) shift }
 {
     if n == 0 {
         return CommitSetCx::new(shift);
     }
-    let above = context_at(n / 2);
-    above.add(shift)
+    context_at(n / 2).add(shift)
 }
 
 impl Decision {
     // The number that stands for a decision in a store.
+    #[tactic(auto, unfolding(crate::specs::Numbers::decision_number))]
     pub fn number(self) -> u64
         requires { Packs self }
         ensures { result ≡ decision_number self }
@@ -71,6 +70,7 @@ impl Decision {
     }
 
     // The decision that stands in a store as the number `n`: every number stands for one.
+    #[tactic(auto, unfolding(crate::specs::Numbers::decision_at))]
     pub fn from_number(n: u64) -> Decision
         ensures { result ≡ decision_at n }
     {

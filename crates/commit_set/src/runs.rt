@@ -1,5 +1,5 @@
 // Runs of shifts, and contexts. Follows frontend/src/pass/fusion/commit_set.rs.
-ghost use Rattle.std.specs.Prelude.{◌≡◌, ◌<◌, max};
+ghost use Rattle.std.specs.Prelude.{◌≡◌, ◌<◌};
 ghost use Rattle.commit_set.specs.Runs.{bit_of, run_of, grown, absorbs, absorbed, join_run, join_runs, no_runs, plus, fresh, under, join};
 
 use crate::{CommitSetCx, Run, ShiftSummary};
@@ -15,28 +15,7 @@ pub const OVER_BUDGET: u8 = MAX_SHIFT_SLOTS + 1;
 pub fn bit_of(variant: ShiftVariant) -> u8
     ensures { result ≡ bit_of variant }
 {
-    match variant {
-        ShiftVariant::Sll => 1,
-        ShiftVariant::Slr => 2,
-        ShiftVariant::Sar => 4,
-        ShiftVariant::Rotr => 8,
-        ShiftVariant::Sll32 => 16,
-        ShiftVariant::Srl32 => 32,
-        ShiftVariant::Sra32 => 64,
-        ShiftVariant::Rotr32 => 128,
-    }
-}
-
-fn larger(x: u8, y: u8) -> u8
-    ensures { result ≡ max x y }
-{
-    if x < y { y } else { x }
-}
-
-fn deeper(x: usize, y: usize) -> usize
-    ensures { result ≡ max x y }
-{
-    if x < y { y } else { x }
+    1 << variant.number()
 }
 
 impl Run {
@@ -44,9 +23,8 @@ impl Run {
     pub fn of(shift: Shift) -> Run
         ensures { result ≡ run_of shift }
     {
-        let v = shift.variant;
         Run {
-            variants: bit_of(v),
+            variants: bit_of(shift.variant),
             total: shift.amount,
         }
     }
@@ -55,8 +33,7 @@ impl Run {
     fn grow(self, shift: Shift) -> u8
         ensures { result ≡ grown self shift }
     {
-        let sum = self.total as u64 + shift.amount as u64;
-        if sum < 255 { sum as u8 } else { 255 }
+        self.total.saturating_add(shift.amount)
     }
 
     // Whether `shift` needs no slot of its own. A run of two variants, which a join makes, takes nothing; a rotation loses no bits, and any
@@ -64,15 +41,8 @@ impl Run {
     pub fn absorbs(self, shift: Shift) -> bool
         ensures { result ≡ absorbs self shift }
     {
-        let v = shift.variant;
-        if self.variants != bit_of(v) {
-            return false;
-        }
-        let row = v.row();
-        if row.cyclic {
-            return true;
-        }
-        self.grow(shift) < row.width
+        let row = shift.variant.row();
+        self.variants == bit_of(shift.variant) && (row.cyclic || self.grow(shift) < row.width)
     }
 
     // The run with `shift` folded in.
@@ -91,7 +61,7 @@ impl Run {
     {
         Run {
             variants: self.variants | other.variants,
-            total: larger(self.total, other.total),
+            total: self.total.max(other.total),
         }
     }
 }
@@ -118,49 +88,36 @@ impl ShiftSummary {
 
     // The path with one more shift inside: a path is followed from its user towards what it names, so the shift meets the innermost run
     // first. Going with it takes no slot; anything else opens one.
+    #[tactic(auto, unfolding(crate::specs::Runs::plus, crate::specs::Runs::meets))]
     pub fn with(self, shift: Shift) -> ShiftSummary
         ensures { result ≡ plus self shift }
     {
-        let a = self.first;
-        let b = self.second;
-        let n = self.len;
         if shift.amount == 0 {
             return self;
         }
-        if n == 0 {
-            return ShiftSummary {
+        match self.len {
+            0 => ShiftSummary {
                 first: Run::of(shift),
-                second: b,
                 len: 1,
-            };
-        }
-        if n == 1 {
-            if a.absorbs(shift) {
-                return ShiftSummary {
-                    first: a.absorb(shift),
-                    second: b,
-                    len: 1,
-                };
-            }
-            return ShiftSummary {
-                first: a,
+                ..self
+            },
+            1 if self.first.absorbs(shift) => ShiftSummary {
+                first: self.first.absorb(shift),
+                ..self
+            },
+            1 => ShiftSummary {
                 second: Run::of(shift),
                 len: 2,
-            };
-        }
-        if n == 2 {
-            if b.absorbs(shift) {
-                return ShiftSummary {
-                    first: a,
-                    second: b.absorb(shift),
-                    len: 2,
-                };
-            }
-        }
-        ShiftSummary {
-            first: a,
-            second: b,
-            len: OVER_BUDGET,
+                ..self
+            },
+            2 if self.second.absorbs(shift) => ShiftSummary {
+                second: self.second.absorb(shift),
+                ..self
+            },
+            _ => ShiftSummary {
+                len: OVER_BUDGET,
+                ..self
+            },
         }
     }
 
@@ -168,14 +125,10 @@ impl ShiftSummary {
     pub fn union(self, other: ShiftSummary) -> ShiftSummary
         ensures { result ≡ join_runs self other }
     {
-        let a = self.first;
-        let b = self.second;
-        let first = a.union(other.first);
-        let second = b.union(other.second);
         ShiftSummary {
-            first,
-            second,
-            len: larger(self.len, other.len),
+            first: self.first.union(other.first),
+            second: self.second.union(other.second),
+            len: self.len.max(other.len),
         }
     }
 }
@@ -202,10 +155,8 @@ impl CommitSetCx {
         requires { self.depth < 4294967296 }
         ensures { result ≡ under self shift }
     {
-        let path = self.shifts;
-        let shifts = path.with(shift);
         CommitSetCx {
-            shifts,
+            shifts: self.shifts.with(shift),
             depth: self.depth + 1,
         }
     }
@@ -214,11 +165,9 @@ impl CommitSetCx {
     pub fn join(self, other: CommitSetCx) -> CommitSetCx
         ensures { result ≡ join self other }
     {
-        let path = self.shifts;
-        let shifts = path.union(other.shifts);
         CommitSetCx {
-            shifts,
-            depth: deeper(self.depth, other.depth),
+            shifts: self.shifts.union(other.shifts),
+            depth: self.depth.max(other.depth),
         }
     }
 }

@@ -1,5 +1,5 @@
 // The decision of one definition: its uses' contexts against its terms' shifts. Follows frontend/src/pass/fusion/commit_set.rs.
-ghost use Rattle.std.specs.Prelude.{◌≡◌, ◌||◌, map, ◌≤◌, ltb, length, get_or};
+ghost use Rattle.std.specs.Prelude.{◌≡◌, map, ◌≤◌, length, get_or};
 ghost use Rattle.shift.specs.Shifts.{shift_at};
 ghost use Rattle.operand.specs.Numbers.{term_of};
 ghost use Rattle.legraph.specs.Tables.{use_at, listed, Linked};
@@ -12,27 +12,23 @@ use operand::LinDefId;
 use shift::{Shift, ShiftVariant};
 
 // Terms and uses have valid shifts; past the eight variants a number is taken for the first one.
+// Kept: the twin `shift::valid::from_index` asks for a number that is known to be valid, and nothing here is.
 fn shift_at(n: u64) -> Shift
     ensures { result ≡ shift_at n }
 {
     let amount = (n % 64) as u8;
-    if 512 <= n {
-        return Shift {
-            variant: ShiftVariant::Sll,
-            amount,
-        };
-    }
-    Shift {
-        variant: ShiftVariant::from_u8((n / 64) as u8),
-        amount,
-    }
+    let variant = if n < 512 {
+        ShiftVariant::from_u8((n / 64) as u8)
+    } else {
+        ShiftVariant::Sll
+    };
+    Shift { variant, amount }
 }
 
 fn decision_at(decisions: &[u64], d: LinDefId) -> u64
     ensures { result ≡ get_or decisions.now d.0 0 }
 {
-    let i = d.0 as usize;
-    if i < decisions.len() { decisions[i] } else { 0 }
+    decisions.get(d.0 as usize).copied().unwrap_or(0)
 }
 
 // The context of a use, its user being decided.
@@ -49,20 +45,14 @@ fn context_of(u: u64, decisions: &[u64]) -> CommitSetCx
 }
 
 // How many runs the path has with the shift of number `n` more inside. An identity, as most are, adds none.
+#[tactic(auto, unfolding(crate::specs::Runs::plus))]
 fn len_with(path: ShiftSummary, n: u64) -> u8
     ensures { result ≡ (plus path (shift_at n)).len }
 {
     if n % 64 == 0 {
         return path.len;
     }
-    let sum = path.with(shift_at(n));
-    sum.len
-}
-
-fn more_than_one(many: bool, len: u8) -> bool
-    ensures { result ≡ (many || ltb 1 len) }
-{
-    if many { true } else { 1 < len }
+    path.with(shift_at(n)).len
 }
 
 // Whether all uses and terms go together within the slots; left at the first sum that does not.
@@ -80,16 +70,13 @@ pub fn decide(ts: &[u64], first: usize, uses: &[u64], decisions: &[u64], slots: 
         let cx = context_of(u, decisions);
         joined = joined.join(cx);
         n += 1;
-        let path = cx.shifts;
-        let mut j = 0;
-        while j < ts.len() {
-            let len = len_with(path, operand::term::inner(ts[j]));
-            many = more_than_one(many, len);
+        for t in ts {
+            let len = len_with(cx.shifts, operand::term::inner(*t));
+            many |= 1 < len;
             if slots < len {
                 over = true;
                 break 'out;
             }
-            j += 1;
         }
         h = (u / 4294967296) as usize;
     }

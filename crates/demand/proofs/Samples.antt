@@ -38,7 +38,7 @@ use Rattle.patch.proofs.Parts.{clash, lost}
 use Rattle.apply.specs.Applied.{kept_rows}
 use Rattle.undo.specs.FillBack.{Assignment}
 use Rattle.fusion.specs.declared.Counts.{Counts}
-use Rattle.fusion.specs.declared.Fused.TheVariants.{Done}
+use Rattle.std.specs.Prelude.{Ok}
 use Rattle.fusion.specs.Left.{Lent, lent, input, fused, flags_of, numbers, is_kept, has_room, counts_of, leaves}
 use Rattle.fusion.specs.Answer.{told_fused, Fuses}
 use Rattle.fusion.proofs.Closing.{fuses_patched}
@@ -160,20 +160,20 @@ leaving : leaves sizes before (λ (w : ℕ). eqb w 2) ≡ afterwards
 unfolding leaves flags_of numbers is_kept kept_rows keep_by handles_from system_of operand_of written all_met rebuilds row_rebuilds rebuilt commits met_operand met_term expand_operand expand_term inlined depth push_valid compose_valid degenerates chains
 leaving = refl
 
-pub sample_fuses : Fuses 2 sizes before afterwards (told_fused (Done counts))
+pub sample_fuses : Fuses 2 sizes before afterwards (told_fused (Ok counts))
 sample_fuses =
     let acc = decided_accepted 2 sizes (input before) no_fault no_circles in
     let st : ℕ → Decision = solution 2 (fused sizes before) acc in
     let s : Solves 2 (fused sizes before) st = solution_solves 2 (fused sizes before) acc in
     from st s (ap (λ (p : System). commit_set p st) stands ∙ chosen st (subst (λ (p : System). Solves 2 p st) stands s))
   where
-    from : (st : ℕ → Decision) → Solves 2 (fused sizes before) st → commit_set (fused sizes before) st ≡ (λ (w : ℕ). eqb w 2) → Fuses 2 sizes before afterwards (told_fused (Done counts))
+    from : (st : ℕ → Decision) → Solves 2 (fused sizes before) st → commit_set (fused sizes before) st ≡ (λ (w : ℕ). eqb w 2) → Fuses 2 sizes before afterwards (told_fused (Ok counts))
     from st s e =
         let room : has_room (fused sizes before) (commit_set (fused sizes before) st) before ≡ true = rw (e, stands) fits in
         let k : counts_of (fused sizes before) (commit_set (fused sizes before) st) ≡ counts = rw (e, stands) told in
         let q : leaves sizes before (commit_set (fused sizes before) st) ≡ afterwards = ap (leaves sizes before) e ∙ leaving in
-        subst (λ (l : Lent). Fuses 2 sizes before l (told_fused (Done counts))) q
-        (subst (λ (n : Counts). Fuses 2 sizes before (leaves sizes before (commit_set (fused sizes before) st)) (told_fused (Done n))) k
+        subst (λ (l : Lent). Fuses 2 sizes before l (told_fused (Ok counts))) q
+        (subst (λ (n : Counts). Fuses 2 sizes before (leaves sizes before (commit_set (fused sizes before) st)) (told_fused (Ok n))) k
         (fuses_patched 2 sizes before st no_fault no_circles s room))
 
 -- ---- demand 3 of it

@@ -36,7 +36,7 @@ use Rattle.undo.specs.Demand3.{MentionsNone, Demand3}
 use Rattle.undo.proofs.Listed.{up_to-length, tabled_at}
 use Rattle.undo.proofs.Theorem.{theorem}
 use Rattle.fusion.specs.declared.Counts.{Counts}
-use Rattle.fusion.specs.declared.Fused.TheVariants.{Done}
+use Rattle.std.specs.Prelude.{Ok}
 use Rattle.fusion.specs.Left.{Lent, input, output, fused, flags_of, counts_of, sizes_after, leaves}
 use Rattle.fusion.specs.Answer.{told_fused, Patches, Fuses, refused, circular, short, patches}
 use Rattle.fusion.proofs.System.{take_front, room}
@@ -57,11 +57,11 @@ is_given (T.refused n) = false
 is_given (T.refused_at n p) = false
 is_given (given vs) = true
 
-told_given : (k : Counts) → is_given (told_fused (Done k)) ≡ true
+told_given : (k : Counts) → is_given (told_fused (Ok k)) ≡ true
 unfolding told_fused
 told_given k = refl
 
-module _ (k m : Counts) (e : told_fused (Done m) ≡ told_fused (Done k)) where
+module _ (k m : Counts) (e : told_fused (Ok m) ≡ told_fused (Ok k)) where
   told_stranded : k.stranded ≡ m.stranded
   unfolding told_fused
   told_stranded = sym (ap (at 1) e)
@@ -239,7 +239,7 @@ module _ (slots : ℕ) (z : Sizes) (l l' : Lent) (st : ℕ → Decision) (f : de
 
 -- which case of fusing it was, by what is told
 module _ (slots : ℕ) (z : Sizes) (l l' : Lent) (k : Counts) (Imul Bmul : List ℕ → Type 0) where
-  from_told : (t : Told) → Fuses slots z l l' t → t ≡ told_fused (Done k) → UndoneOnStores z l l' k Imul Bmul
+  from_told : (t : Told) → Fuses slots z l l' t → t ≡ told_fused (Ok k) → UndoneOnStores z l l' k Imul Bmul
   from_told t (refused e h q) q' = absurd (clash (told_given k) (ap is_given (sym q')))
   from_told t (circular f w c q) q' = absurd (clash (told_given k) (ap is_given (sym q')))
   from_told t (short f n st s h q) q' = absurd (clash (told_given k) (ap is_given (sym q')))
@@ -250,5 +250,5 @@ module _ (slots : ℕ) (z : Sizes) (l l' : Lent) (k : Counts) (Imul Bmul : List 
       Imul Bmul
 
   -- THE THEOREM. Demand 3, of the stores that fusing leaves.
-  pub demand_3_on_stores : Fuses slots z l l' (told_fused (Done k)) → UndoneOnStores z l l' k Imul Bmul
-  demand_3_on_stores h = from_told (told_fused (Done k)) h refl
+  pub demand_3_on_stores : Fuses slots z l l' (told_fused (Ok k)) → UndoneOnStores z l l' k Imul Bmul
+  demand_3_on_stores h = from_told (told_fused (Ok k)) h refl

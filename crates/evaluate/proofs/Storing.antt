@@ -1,16 +1,14 @@
 -- Values stored one after the other, and list after list. Assumes nothing.
 use mathlib.Core.Path.{◌≡◌, refl, sym, ap, ◌∙◌}
-use Prim.Native.Nat.{ℕ, suc, ◌+◌, ◌*◌, ◌≤◌, ◌<◌}
+use Prim.Native.Nat.{ℕ, suc, ◌+◌, ◌<◌}
 use native.Mathlib.Nat.{add-zero}
 use native.Mathlib.Numerals.{add-one}
 use native.Mathlib.Omega.{arith}
 use mathlib.Core.List.{List, [], ◌∷◌, ◌++◌, append_assoc}
-use lib.ListN.{length, take, get_or, set, length-map, length-append}
+use lib.ListN.{length, take, get_or, set, length-map}
 use lib.Seq.{sets, take-suc, length-take-le}
-use Rattle.lower.specs.declared.Sizes.{Sizes}
-use Rattle.lower.specs.Stores.{row_handles, handles_of}
 use Rattle.lower.proofs.Laws.{map-join}
-use Rattle.evaluate.specs.Steps.{AllReady, value_at, values_at, count_in}
+use Rattle.evaluate.specs.Steps.{value_at, values_at}
 
 sets-append : (l : List ℕ) (i : ℕ) (xs ys : List ℕ) → sets l i (xs ++ ys) ≡ sets (sets l i xs) (i + length xs) ys
 sets-append l i [] ys = ap (λ (k : ℕ). sets l k ys) (sym (add-zero i))
@@ -30,9 +28,6 @@ module _ (old new ws : List ℕ) where
   unfolding values_at
   values-append a b = map-join (value_at old new ws) a b
 
-  first_length : (hs : List ℕ) (n : ℕ) → n ≤ length hs → length (values_at old new ws (take n hs)) ≡ n
-  first_length hs n h = values_length (take n hs) ∙ length-take-le n hs h
-
   pub values-none : (l : List ℕ) (at : ℕ) (hs : List ℕ) → l ≡ sets l at (values_at old new ws (take 0 hs))
   unfolding values_at
   values-none l at hs = refl
@@ -45,72 +40,44 @@ module _ (old new ws : List ℕ) where
 
     pub values_step : (l : List ℕ) (at v : ℕ) → v ≡ value_at old new ws (get_or hs i 0) → set (sets l at (values_at old new ws (take i hs))) (at + i) v ≡ sets l at (values_at old new ws (take (i + 1) hs))
     values_step l at v e =
-        let f = first_length hs i (omega arith) in
+        let f = values_length (take i hs) ∙ length-take-le i hs (omega arith) in
         rw e
         (sym
         (ap (sets l at) values-more
         ∙ sets_two l at (at + i) (values_at old new ws (take i hs)) (value_at old new ws (get_or hs i 0) ∷ []) (omega (arith, f))))
 
-  -- the five lists
-  module _ (z : Sizes) (ands imuls bmuls zeros rhss : List ℕ) (y : AllReady old new z ands imuls bmuls zeros rhss) where
-    abbrev a : List ℕ
-    a = values_at old new ws (take (3 * z.ands) ands)
-
-    abbrev i : List ℕ
-    i = values_at old new ws (take (4 * z.imuls) imuls)
-
-    abbrev b : List ℕ
-    b = values_at old new ws (take (6 * z.bmuls) bmuls)
-
-    abbrev o : List ℕ
-    o = values_at old new ws (take z.zeros zeros)
-
-    abbrev d : List ℕ
-    d = values_at old new ws (take z.linears rhss)
-
-    lists_apart : values_at old new ws (handles_of z ands imuls bmuls zeros rhss) ≡ a ++ (i ++ (b ++ (o ++ d)))
-    unfolding row_handles
-    lists_apart =
-        values-append (row_handles z ands imuls bmuls zeros) (take z.linears rhss)
+  -- the five lists, each after the one before it
+  module _ (a i b o d : List ℕ) where
+    apart : values_at old new ws ((a ++ (i ++ (b ++ o))) ++ d)
+        ≡ values_at old new ws a ++ (values_at old new ws i ++ (values_at old new ws b ++ (values_at old new ws o ++ values_at old new ws d)))
+    apart =
+        values-append (a ++ (i ++ (b ++ o))) d
         ∙ rw (
-          values-append (take (3 * z.ands) ands) (take (4 * z.imuls) imuls ++ (take (6 * z.bmuls) bmuls ++ take z.zeros zeros)),
-          values-append (take (4 * z.imuls) imuls) (take (6 * z.bmuls) bmuls ++ take z.zeros zeros),
-          values-append (take (6 * z.bmuls) bmuls) (take z.zeros zeros),
-          append_assoc a (i ++ (b ++ o)) d,
-          append_assoc i (b ++ o) d,
-          append_assoc b o d,
+          values-append a (i ++ (b ++ o)),
+          values-append i (b ++ o),
+          values-append b o,
+          append_assoc (values_at old new ws a) (values_at old new ws i ++ (values_at old new ws b ++ values_at old new ws o)) (values_at old new ws d),
+          append_assoc (values_at old new ws i) (values_at old new ws b ++ values_at old new ws o) (values_at old new ws d),
+          append_assoc (values_at old new ws b) (values_at old new ws o) (values_at old new ws d),
         )
 
-    pub handles_count : length (handles_of z ands imuls bmuls zeros rhss) ≡ count_in z
-    handles_count =
-        sym (values_length (handles_of z ands imuls bmuls zeros rhss))
-        ∙ ap length lists_apart
-        ∙ omega (
-          arith,
-          length-append a (i ++ (b ++ (o ++ d))),
-          length-append i (b ++ (o ++ d)),
-          length-append b (o ++ d),
-          length-append o d,
-          first_length ands (3 * z.ands) y.ands_in,
-          first_length imuls (4 * z.imuls) y.imuls_in,
-          first_length bmuls (6 * z.bmuls) y.bmuls_in,
-          first_length zeros z.zeros y.zeros_in,
-          first_length rhss z.linears y.rhss_in,
-        )
-
-    -- each list after the one before it
-    pub lists_stored : (l l₁ l₂ l₃ l₄ l₅ : List ℕ) (p₁ p₂ p₃ p₄ : ℕ) → p₁ ≡ 3 * z.ands → p₂ ≡ p₁ + 4 * z.imuls → p₃ ≡ p₂ + 6 * z.bmuls → p₄ ≡ p₃ + z.zeros
-        → l₁ ≡ sets l 0 a → l₂ ≡ sets l₁ p₁ i → l₃ ≡ sets l₂ p₂ b → l₄ ≡ sets l₃ p₃ o → l₅ ≡ sets l₄ p₄ d
-        → l₅ ≡ sets l 0 (values_at old new ws (handles_of z ands imuls bmuls zeros rhss))
+    pub lists_stored : (l l₁ l₂ l₃ l₄ l₅ : List ℕ) (p₁ p₂ p₃ p₄ : ℕ) → p₁ ≡ 0 + length a → p₂ ≡ p₁ + length i → p₃ ≡ p₂ + length b → p₄ ≡ p₃ + length o
+        → l₁ ≡ sets l 0 (values_at old new ws a) → l₂ ≡ sets l₁ p₁ (values_at old new ws i) → l₃ ≡ sets l₂ p₂ (values_at old new ws b)
+        → l₄ ≡ sets l₃ p₃ (values_at old new ws o) → l₅ ≡ sets l₄ p₄ (values_at old new ws d)
+        → l₅ ≡ sets l 0 (values_at old new ws ((a ++ (i ++ (b ++ o))) ++ d))
     lists_stored l l₁ l₂ l₃ l₄ l₅ p₁ p₂ p₃ p₄ e₁ e₂ e₃ e₄ k₁ k₂ k₃ k₄ k₅ =
+        let vd : List ℕ = values_at old new ws d in
+        let vo : List ℕ = values_at old new ws o ++ vd in
+        let vb : List ℕ = values_at old new ws b ++ vo in
+        let vi : List ℕ = values_at old new ws i ++ vb in
         sym
-        (ap (sets l 0) lists_apart
-        ∙ sets_two l 0 p₁ a (i ++ (b ++ (o ++ d))) (omega (arith, e₁, first_length ands (3 * z.ands) y.ands_in))
-        ∙ ap (λ (t : List ℕ). sets t p₁ (i ++ (b ++ (o ++ d)))) (sym k₁)
-        ∙ sets_two l₁ p₁ p₂ i (b ++ (o ++ d)) (omega (arith, e₂, first_length imuls (4 * z.imuls) y.imuls_in))
-        ∙ ap (λ (t : List ℕ). sets t p₂ (b ++ (o ++ d))) (sym k₂)
-        ∙ sets_two l₂ p₂ p₃ b (o ++ d) (omega (arith, e₃, first_length bmuls (6 * z.bmuls) y.bmuls_in))
-        ∙ ap (λ (t : List ℕ). sets t p₃ (o ++ d)) (sym k₃)
-        ∙ sets_two l₃ p₃ p₄ o d (omega (arith, e₄, first_length zeros z.zeros y.zeros_in))
-        ∙ ap (λ (t : List ℕ). sets t p₄ d) (sym k₄)
+        (ap (sets l 0) apart
+        ∙ sets_two l 0 p₁ (values_at old new ws a) vi (omega (arith, e₁, values_length a))
+        ∙ ap (λ (t : List ℕ). sets t p₁ vi) (sym k₁)
+        ∙ sets_two l₁ p₁ p₂ (values_at old new ws i) vb (omega (arith, e₂, values_length i))
+        ∙ ap (λ (t : List ℕ). sets t p₂ vb) (sym k₂)
+        ∙ sets_two l₂ p₂ p₃ (values_at old new ws b) vo (omega (arith, e₃, values_length b))
+        ∙ ap (λ (t : List ℕ). sets t p₃ vo) (sym k₃)
+        ∙ sets_two l₃ p₃ p₄ (values_at old new ws o) vd (omega (arith, e₄, values_length o))
+        ∙ ap (λ (t : List ℕ). sets t p₄ vd) (sym k₄)
         ∙ sym k₅)

@@ -6,22 +6,21 @@
 --   values_of p w       the values of all operands, in the writer's order; w i is the word of wire i
 --   size_fault, room_fault   13 where the assignment has not one word a wire; 12 where so many lent words are too few
 --   evaluation_fault    all of it in 01's order
---   evaluated_by f n    the refusal f, or the count n where there is none
---   told_evaluated      number and values of each case
---   EvaluateIs         the answer, number and values of its case, and what the lent words are afterwards: the values from their front on
---                      and the rest as it was; on a refusal all as it was
+--   told_evaluated      number and values of each case: a refusal's number, or how many values there are
+--   EvaluateIs         the number of the answer, the values of its case, and what the lent words are afterwards: the values from their
+--                      front on and the rest as it was; on a refusal all as it was
 --
 -- Assumes nothing.
-use Rattle.std.specs.Prelude.{◌≡◌, ℕ, zero, suc, List, [], ◌∷◌, map, leb, eqb, length}
+use Rattle.std.specs.Prelude.{◌≡◌, ℕ, zero, suc, List, [], ◌∷◌, map, leb, eqb, length, Result}
 use Rattle.std.proofs.lemmas.List.Edits.{sets}
-use Rattle.word.specs.Answers.{Told, given, refused}
+use Rattle.refusal.specs.declared.Refusal.{Refusal}
+use Rattle.refusal.specs.Refusals.{fault_in}
+use Rattle.word.specs.Answers.{Told, given, refused, told_by}
 use Rattle.lower.specs.declared.Sizes.{Sizes}
 use Rattle.lower.specs.Model.{System, operands_of}
 use Rattle.lower.specs.Values.{value, word_of}
 use Rattle.lower.specs.Stores.{Stores, system_of}
 use Rattle.lower.specs.Faults.{or_else, unless, memory_fault}
-use Rattle.evaluate.specs.declared.Evaluated.{Evaluated}
-use Rattle.evaluate.specs.declared.Evaluated.TheVariants.{Done, Refused}
 
 abbrev pub MAX_WRITTEN_TERMS : ℕ
 MAX_WRITTEN_TERMS = 24576
@@ -46,24 +45,19 @@ room_fault p room = unless (leb (length (operands_of p)) room) ROOM
 unfoldable pub evaluation_fault : Sizes → Stores → ℕ → ℕ → ℕ
 evaluation_fault z s n room = or_else (memory_fault MAX_WRITTEN_TERMS z s) (or_else (size_fault z.wires n) (room_fault (system_of z s) room))
 
-unfoldable pub evaluated_by : ℕ → ℕ → Evaluated
-evaluated_by zero n = Done n
-evaluated_by (suc f) n = Refused (suc f)
-
 unfoldable pub values_by : ℕ → List ℕ → List ℕ
 values_by zero vs = vs
 values_by (suc f) vs = []
 
-unfoldable pub told_evaluated : Evaluated → Told
-told_evaluated (Done n) = given (n ∷ [])
-told_evaluated (Refused number) = refused number
+abbrev pub told_evaluated : Result ℕ Refusal → Told
+told_evaluated = told_by (λ n. n ∷ [])
 
 unfoldable pub numbered_by : ℕ → List ℕ → Told
 numbered_by zero vs = given vs
 numbered_by (suc f) vs = refused (suc f)
 
 -- ws is the assignment, out the lent words before and out' after
-pub record EvaluateIs (z : Sizes) (s : Stores) (ws out : List ℕ) (r : Evaluated) (out' : List ℕ) : Type 0 where
-  pub answer : r ≡ evaluated_by (evaluation_fault z s (length ws) (length out)) (length (operands_of (system_of z s)))
+pub record EvaluateIs (z : Sizes) (s : Stores) (ws out : List ℕ) (r : Result ℕ Refusal) (out' : List ℕ) : Type 0 where
+  pub answer : fault_in r ≡ evaluation_fault z s (length ws) (length out)
   pub tells : told_evaluated r ≡ numbered_by (evaluation_fault z s (length ws) (length out)) (length (operands_of (system_of z s)) ∷ [])
   pub filled : out' ≡ sets out 0 (values_by (evaluation_fault z s (length ws) (length out)) (values_of (system_of z s) (word_of ws)))

@@ -1,19 +1,18 @@
 // What an operand is worth under an assignment: the xor of its terms' words, each shifted by inner, then outer.
-ghost use Rattle.std.specs.Prelude.{◌≡◌, map, ℕ};
+ghost use Rattle.std.specs.Prelude.{◌≡◌};
 ghost use Rattle.operand.specs.Numbers.{term_of, operand_of};
 ghost use Rattle.lower.specs.Lists.{All};
 ghost use Rattle.lower.specs.Accepted.{ShiftsOf};
 ghost use Rattle.lower.specs.Stores.{Stands};
 ghost use Rattle.lower.specs.Values.{word_of, term_value, value};
 
+use operand::TermStores;
+
 // The word of a wire. Past the end it is 0, as the model has it.
 fn word_of(words: &[u64], i: usize) -> u64
     ensures { result ≡ word_of words.now i }
 {
-    if i < words.len() {
-        return words[i];
-    }
-    0
+    words.get(i).copied().unwrap_or(0)
 }
 
 fn term_value(t: u64, words: &[u64]) -> u64
@@ -28,25 +27,16 @@ fn term_value(t: u64, words: &[u64]) -> u64
     shift::valid::apply(outer, moved)
 }
 
-// From the last term on, as the model sums them.
-fn terms_value(ts: &[u64], words: &[u64]) -> u64
-    requires { All (λ (t : ℕ). ShiftsOf (term_of t)) ts.now }
-    ensures { result ≡ value (word_of words.now) (map term_of ts.now) }
+// The value of the operand of number `h`: its terms from the last one on, as the model sums them.
+pub fn operand_value(stores: &TermStores<'_>, h: u64, words: &[u64]) -> u64
+    requires stands { Stands stores.now.old.now stores.now.new.now h }
+    requires shifted { All ShiftsOf (operand_of stores.now.old.now stores.now.new.now h) }
+    ensures { result ≡ value (word_of words.now) (operand_of stores.now.old.now stores.now.new.now h) }
 {
+    let ts = stores.terms(h);
     let mut sum: u64 = 0;
-    let mut i = ts.len();
-    while 0 < i {
-        i -= 1;
+    for i in (0..ts.len()).rev() {
         sum = term_value(ts[i], words) ^ sum;
     }
     sum
-}
-
-// The value of the operand of number `h`.
-pub fn operand_value<'a>(old: &'a [u64], new: &'a [u64], h: u64, words: &[u64]) -> u64
-    requires stands { Stands old.now new.now h }
-    requires all { All ShiftsOf (operand_of old.now new.now h) }
-    ensures { result ≡ value (word_of words.now) (operand_of old.now new.now h) }
-{
-    terms_value(lower::operand_terms(old, new, h), words)
 }

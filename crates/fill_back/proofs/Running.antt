@@ -1,13 +1,16 @@
 -- What the calls of `fill_back` ask, what the walk has come to, and that filling in its order fills back. Assumes nothing.
 use mathlib.Core.Path.{◌≡◌, refl, sym, ap, ap₂, ◌∙◌, subst}
-use Prim.Native.Nat.{ℕ, zero, suc, ◌≤◌, ◌<◌}
+use Prim.Native.Nat.{ℕ, ◌≤◌, ◌<◌}
 use native.Mathlib.Omega.{arith}
 use mathlib.Core.Bool.{Bool, true, false, cond, ◌&&◌}
 use lib.Dec.{eqb}
-use borrow.Author.Tests.{eqb-true, eq-eqb, ne_eqb}
-use mathlib.Core.List.Memᴰ
+use borrow.Author.Tests.{eqb-true}
 use mathlib.Core.List.{List, [], ◌∷◌, Memᴰ}
 use lib.ListN.{length, set, take, drop, replicate, length-replicate}
+use Rattle.std.specs.Result.{IsErrAnd}
+use Rattle.std.specs.Prelude.{Result}
+use Rattle.refusal.specs.declared.Refusal.{Refusal}
+use Rattle.refusal.specs.Refusals.{number_of, fault_in}
 use Rattle.operand.specs.Numbers.{Operand}
 use Rattle.lower.specs.declared.Sizes.{Sizes}
 use Rattle.lower.specs.Lists.{All}
@@ -17,13 +20,14 @@ use Rattle.lower.specs.Accepted.{ShiftsOf, Once, Reaches, NoCircle}
 use Rattle.lower.specs.Stores.{Stores, system_of}
 use Rattle.lower.specs.Faults.{memory_fault, fault_of}
 use Rattle.lower.specs.Explained.{Standing}
+use Rattle.lower.proofs.Refusals.{number_some, exit_is}
 use Rattle.lower.proofs.Firsts.{else_first, else_second}
 use Rattle.lower.proofs.Checks.{checked, dsts_small, memory_places, memory_wires, memory_definitions}
 use Rattle.lower.proofs.Explains.{standing_right, proper_right}
 use Rattle.legraph.specs.declared.Walk.{Walk}
 use Rattle.legraph.specs.Uses.{dst_of, no_definition}
 use Rattle.legraph.specs.Tables.{numbered}
-use Rattle.legraph.specs.Walked.{Walked, walk_from, walk_of, order_of, rhs_in, There, Sound}
+use Rattle.legraph.specs.Walked.{Walked, walk_of, order_of, rhs_in, There, Sound}
 use Rattle.legraph.specs.Orders.{Posted}
 use Rattle.legraph.proofs.Listing.{table_of}
 use Rattle.legraph.proofs.Theorem.{count, rhs_same, dst_same, small, table_made, all_there, sound, Ends, ends}
@@ -31,7 +35,7 @@ use Rattle.commit_set.proofs.Members.{all_get, all_terms, all_rhs}
 use Rattle.patch.proofs.Parts.{clash, all_members}
 use Rattle.undo.specs.Steps.{fill_one, fill_all}
 use Rattle.undo.proofs.Order.{fill_all-length, fills_in_order}
-use Rattle.fill_back.specs.Filling.{flagged, lengths_right, FillsIs, filled}
+use Rattle.fill_back.specs.Filling.{flagged, lengths_right, FillsIs, refused, filled}
 use Rattle.fill_back.specs.Steps.{Held, held, fill_step, fill_from, Able}
 
 -- what the lengths' test says
@@ -44,26 +48,9 @@ lengths_both z flags ws e = go (eqb (length flags) z.wires) (eqb (length ws) z.w
     go true false h p q = absurd (clash h refl)
     go false b h p q = absurd (clash h refl)
 
--- the test as it is made
-module _ (z : Sizes) (flags ws : List ℕ) where
-  pub lengths_wrong : (length flags ≡ z.wires → ⊥) → false ≡ lengths_right z flags ws
-  unfolding lengths_right
-  lengths_wrong n = rw (ne_eqb (length flags) z.wires n)
-
-  pub lengths_last : length flags ≡ z.wires → eqb (length ws) z.wires ≡ lengths_right z flags ws
-  unfolding lengths_right
-  lengths_last e = rw (eq-eqb (length flags) z.wires e)
-
--- a list of which something is left over ends after that
-drop-under : (l : List ℕ) (k d : ℕ) → Memᴰ d (drop k l) → k ≤ length l
-drop-under l zero d m = omega arith
-drop-under [] (suc k) d m = absurd (Memᴰ.not-nil m)
-drop-under (x ∷ xs) (suc k) d m = let h : k ≤ length xs = drop-under xs k d m in omega (arith, h)
-
--- where there is no definition nothing is written
-walk_none : (rhs : ℕ → Operand) (table marks order : List ℕ) → (walk_of rhs table 0 marks order).left ≤ length (walk_of rhs table 0 marks order).order
-unfolding walk_of walk_from
-walk_none rhs table marks order = omega arith
+-- what a check refuses is refused, and nothing is filled
+pub refused_exit : (z : Sizes) (s : Stores) (flags ws : List ℕ) (x : Result Unit Refusal) (r : Refusal) → IsErrAnd x (λ y. y ≡ r) → number_of r ≡ fault_of 8192 z s → FillsIs z s flags ws ws (fault_in x)
+refused_exit z s flags ws x r h e = let p = exit_is x r (fault_of 8192 z s) h e in refused p (λ q. number_some r (e ∙ sym p ∙ q)) refl
 
 module _ (z : Sizes) (s : Stores) (f : fault_of 8192 z s ≡ 0) where
   abbrev p : System
@@ -108,16 +95,6 @@ module _ (z : Sizes) (s : Stores) (f : fault_of 8192 z s ≡ 0) where
     pub posted : c.circle ≡ false → Posted (rhs_in s.old s.new s.rhss) (table_of 4096 p) (drop c.left order)
     pub whole : c.circle ≡ false → (d : ℕ) → d < length p.linears → Memᴰ d (drop c.left order)
     pub only : c.circle ≡ false → (d : ℕ) → Memᴰ d (drop c.left order) → d < length p.linears
-    pub within : c.circle ≡ false → c.left ≤ length order
-
-  under : (t : List ℕ) → ((d : ℕ) → d < z.linears → Memᴰ d (order_of (walk_by t))) → (walk_by t).left ≤ length (walk_by t).order
-  under t = go z.linears (walk_none (rhs_in s.old s.new s.rhss) t (replicate 1024 0) (replicate 1024 0))
-    where
-      go : (n : ℕ) → (walk_of (rhs_in s.old s.new s.rhss) t 0 (replicate 1024 0) (replicate 1024 0)).left ≤ length (walk_of (rhs_in s.old s.new s.rhss) t 0 (replicate 1024 0) (replicate 1024 0)).order
-          → ((d : ℕ) → d < n → Memᴰ d (order_of (walk_of (rhs_in s.old s.new s.rhss) t n (replicate 1024 0) (replicate 1024 0))))
-          → (walk_of (rhs_in s.old s.new s.rhss) t n (replicate 1024 0) (replicate 1024 0)).left ≤ length (walk_of (rhs_in s.old s.new s.rhss) t n (replicate 1024 0) (replicate 1024 0)).order
-      go zero h k = h
-      go (suc n) h k = drop-under _ _ 0 (k 0 (omega arith))
 
   pub outcome : (t : List ℕ) (c : Walk) (order : List ℕ) → t ≡ numbered 0 (take z.linears s.dsts) (replicate 4096 0)
       → c.left ≡ (walk_by t).left → c.circle ≡ (walk_by t).circle → order ≡ (walk_by t).order → Outcome c order
@@ -131,7 +108,6 @@ module _ (z : Sizes) (s : Stores) (f : fault_of 8192 z s ≡ 0) where
         posted = λ h. rw same (r.posted (sym b ∙ h));
         whole = λ h d k. subst (Memᴰ d) (sym same) (r.whole (sym b ∙ h) d k);
         only = λ h d m. r.only (sym b ∙ h) d (subst (Memᴰ d) same m);
-        within = λ h. rw (l, o) (under t (λ d k. r.whole (sym b ∙ h) d (omega (arith, k, count z s memory_none))));
       }
 
   -- ---- filling

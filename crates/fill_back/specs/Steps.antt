@@ -1,6 +1,6 @@
 -- Filling back in stores: the definitions of an order, the last one first.
 --
---   Held                 the definitions in stores, and the flags
+--   Held                 the definitions in stores, and the flags; held_in, those of a lent system
 --   fill_step h d ws      the words ws after the definition d: its wire has the value of its right side, unless it is committed
 --   fill_from h ds ws     the words ws after the definitions ds, the last one first
 --   Able h n d           what is needed of the definition d, with n words: it has its right side, its wire has a flag and a word, and its
@@ -9,6 +9,7 @@
 -- Assumes nothing.
 use Rattle.std.specs.Prelude.{ℕ, ◌<◌, cond, List, [], ◌∷◌, length, get_or, set}
 use Rattle.operand.specs.Numbers.{Operand}
+use Rattle.lower.specs.declared.LentSystem.{LentSystem}
 use Rattle.lower.specs.Lists.{All}
 use Rattle.lower.specs.Values.{value, word_of}
 use Rattle.lower.specs.Accepted.{ShiftsOf}
@@ -25,6 +26,9 @@ pub record Held : Type 0 where
 
 abbrev pub held : List ℕ → List ℕ → List ℕ → List ℕ → List ℕ → Held
 held old new dsts rhss flags = record { old = old; new = new; dsts = dsts; rhss = rhss; flags = flags }
+
+abbrev pub held_in : LentSystem → List ℕ → Held
+held_in s flags = held s.stores.old.now s.stores.new.now s.dsts.now s.rhss.now flags
 
 abbrev pub rhs_at : Held → ℕ → Operand
 rhs_at h d = rhs_in h.old h.new h.rhss d

@@ -3,11 +3,10 @@
 --   Covers r out flags   so many bytes and flags are there as the answer r speaks of
 --
 -- Assumes nothing.
-use Rattle.std.specs.Prelude.{ℕ, ◌≤◌}
-use Rattle.report.specs.declared.FuseFile.{FuseFile}
-use Rattle.report.specs.declared.FuseFile.TheVariants.{Done, Refused, Unread}
+use Rattle.std.specs.Prelude.{ℕ, ◌≤◌, Result, Ok, Err}
+use Rattle.report.specs.declared.FusedFile.{FusedFile}
+use Rattle.report.specs.declared.outcome.Fault.{Fault}
 
-abbrev pub Covers : FuseFile → ℕ → ℕ → Type 0
-Covers (Done n wires) out flags = (n ≤ out) × (wires ≤ flags)
-Covers (Refused number) out flags = Unit {0}
-Covers (Unread number at) out flags = Unit {0}
+abbrev pub Covers : Result FusedFile Fault → ℕ → ℕ → Type 0
+Covers (Ok f) out flags = (f.length ≤ out) × (f.wires ≤ flags)
+Covers (Err _) out flags = Unit {0}

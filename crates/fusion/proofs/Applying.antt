@@ -4,7 +4,7 @@ use Prim.Native.Nat.{ℕ, zero, suc, ◌+◌, ◌*◌, ◌-◌, ◌≤◌, ◌<�
 use native.Mathlib.Omega.{arith}
 use mathlib.Core.Bool.{Bool, true}
 use mathlib.Core.List.{List, [], ◌∷◌, ◌++◌, map}
-use lib.ListN.{length, take, drop, replicate, length-append, length-map}
+use lib.ListN.{length, take, drop, replicate, length-append, length-map, length-drop}
 use lib.Seq.{sets, take-take}
 use Rattle.operand.specs.Numbers.{Operand, operand_of, term_number}
 use Rattle.lower.specs.declared.Sizes.{Sizes}
@@ -17,7 +17,7 @@ use Rattle.lower.proofs.Laws.{all_left, linears_length}
 use Rattle.legraph.specs.Tables.{numbered}
 use Rattle.legraph.proofs.Listing.{table_of}
 use Rattle.legraph.proofs.Theorem.{table_made}
-use Rattle.patch.specs.Patch.{row_rebuilds, rebuilds, rhss_of, commits, stranded, stays, written}
+use Rattle.patch.specs.Patch.{row_rebuilds, rebuilds, rhss_of, commits, stranded, stays, written, terms_written}
 use Rattle.patch.specs.Handles.{keep_by}
 use Rattle.patch.specs.Counts.{Counted}
 use Rattle.patch.proofs.Counting.{counted, definitions_few}
@@ -52,9 +52,9 @@ drop-length zero l h = omega arith
 drop-length (suc i) [] h = absurd (omega arith)
 drop-length (suc i) (x ∷ l) h = omega (arith, drop-length i l (omega arith))
 
-module _ (z : Sizes) (l : Lent) (decisions : List ℕ) (r : Ready z (input l) decisions) (t reach out list : List ℕ) (n : ℕ)
+module _ (z : Sizes) (l : Lent) (decisions : List ℕ) (r : Ready z (input l) decisions) (t reach terms list : List ℕ)
     (q : t ≡ numbered 0 (take z.linears l.dsts) (replicate 4096 0)) (m : ReachIn (fused z l) (chosen z (input l) decisions) z.linears l.dsts reach)
-    (h : Holds (fused z l) (chosen z (input l) decisions) out list n) (fits : has_room (fused z l) (chosen z (input l) decisions) l ≡ true) where
+    (h : Holds (fused z l) (chosen z (input l) decisions) terms list) (fits : has_room (fused z l) (chosen z (input l) decisions) l ≡ true) where
   abbrev p : System
   p = fused z l
 
@@ -81,11 +81,15 @@ module _ (z : Sizes) (l : Lent) (decisions : List ℕ) (r : Ready z (input l) de
 
   -- ---- terms
 
-  pub extend_asks : (0 + n ≤ length l.new) × (0 + n ≤ length out)
-  extend_asks = (omega (arith, h.count, rooms.new_long), omega (arith, h.count, h.terms_there))
+  written_count : length terms ≡ terms_written p c
+  unfolding terms_written
+  written_count = ap length h.terms ∙ length-map (written p c) term_number
 
-  pub new_left : (new' : List ℕ) → new' ≡ sets l.new 0 (take n (drop 0 out)) → new' ≡ sets l.new 0 (map term_number (written p c))
-  new_left new' k = k ∙ ap (sets l.new 0) (ap (λ (i : ℕ). take i out) h.count ∙ h.terms)
+  pub extend_asks : 0 + length terms ≤ length l.new
+  extend_asks = omega (arith, written_count, rooms.new_long)
+
+  new_left : (new' : List ℕ) → new' ≡ sets l.new 0 terms → new' ≡ sets l.new 0 (map term_number (written p c))
+  new_left new' k = k ∙ ap (sets l.new 0) h.terms
 
   -- ---- rows
 
@@ -195,31 +199,31 @@ module _ (z : Sizes) (l : Lent) (decisions : List ℕ) (r : Ready z (input l) de
   before_count : length p.linears ≡ z.linears
   before_count = linears_length z (input l) (there z (input l) decisions r).dsts_there (there z (input l) decisions r).rhss_there
 
-  pub definitions_asks : (from : ℕ) → from ≡ from_commits test z l.ands l.imuls l.bmuls l.zeros → Closable l.dsts l.rhss z.linears z.wires decisions t reach list from
-  definitions_asks from g = record {
+  pub definitions_asks : (rest : List ℕ) → rest ≡ drop (from_commits test z l.ands l.imuls l.bmuls l.zeros) list → Closable l.dsts l.rhss z.linears z.wires decisions t reach rest
+  definitions_asks rest g = record {
     dsts_there = (there z (input l) decisions r).dsts_there;
     rhss_there = (there z (input l) decisions r).rhss_there;
     wires_few = wires_few z (input l) decisions r;
     left_few = omega (arith, stranded_count, commit_count, counts.linears_count, before_count);
-    list_there = omega (arith, g, zeros_struck, commit_count, rebuilds_length, h.there);
+    list_there = omega (arith, ap length g, length-drop (from_commits test z l.ands l.imuls l.bmuls l.zeros) list, zeros_struck, commit_count, rebuilds_length, h.there);
   }
 
   pub dsts_left : (x : List ℕ) → x ≡ sets l.dsts 0 (keep_from (is_stranded decisions reach) 0 (take z.linears l.dsts) ++ committed_wires t decisions 0 z.wires)
       → x ≡ sets l.dsts 0 (keep (stays p c) (take z.linears l.dsts) ++ destinations (commits p c))
   dsts_left x d = d ∙ ap (sets l.dsts 0) (ap₂ {C = List ℕ} ◌++◌ (dsts_stay r.slots z (input l) e decisions reach (few z (input l) decisions r) acc r.solves m) commit_wires)
 
-  rest_is : (from : ℕ) → from ≡ zeros_end p c → take (length (committed_wires t decisions 0 z.wires)) (drop from list) ≡ drop (zeros_end p c) (numbers p c)
-  rest_is from g =
-      ap₂ {C = List ℕ} (λ (i j : ℕ). take i (drop j list)) commit_count g
+  rest_is : (rest : List ℕ) → rest ≡ drop (from_commits test z l.ands l.imuls l.bmuls l.zeros) list → take (length (committed_wires t decisions 0 z.wires)) rest ≡ drop (zeros_end p c) (numbers p c)
+  rest_is rest g =
+      ap₂ {C = List ℕ} (λ (i : ℕ) (x : List ℕ). take i x) commit_count (g ∙ ap (λ (j : ℕ). drop j list) zeros_struck)
       ∙ part_is (length (commits p c)) (zeros_end p c) (omega (arith, rebuilds_length))
       ∙ take_whole (length (commits p c)) (drop (zeros_end p c) (numbers p c))
       (omega (arith, drop-length (zeros_end p c) (numbers p c) (omega (arith, numbers_length p c, rebuilds_length)), numbers_length p c, rebuilds_length))
 
-  pub rhss_left : (x : List ℕ) (from : ℕ) → from ≡ from_commits test z l.ands l.imuls l.bmuls l.zeros
-      → x ≡ sets l.rhss 0 (keep_from (is_stranded decisions reach) 0 (take z.linears l.rhss) ++ take (length (committed_wires t decisions 0 z.wires)) (drop from list))
+  pub rhss_left : (x rest : List ℕ) → rest ≡ drop (from_commits test z l.ands l.imuls l.bmuls l.zeros) list
+      → x ≡ sets l.rhss 0 (keep_from (is_stranded decisions reach) 0 (take z.linears l.rhss) ++ take (length (committed_wires t decisions 0 z.wires)) rest)
       → x ≡ sets l.rhss 0 (keep_by (stays p c) (take z.linears l.dsts) (take z.linears l.rhss) ++ drop (zeros_end p c) (numbers p c))
-  rhss_left x from g d =
-      d ∙ ap (sets l.rhss 0) (ap₂ {C = List ℕ} ◌++◌ (rhss_stay r.slots z (input l) e decisions reach (few z (input l) decisions r) acc r.solves m) (rest_is from (g ∙ zeros_struck)))
+  rhss_left x rest g d =
+      d ∙ ap (sets l.rhss 0) (ap₂ {C = List ℕ} ◌++◌ (rhss_stay r.slots z (input l) e decisions reach (few z (input l) decisions r) acc r.solves m) (rest_is rest g))
 
   -- ---- flags
 
@@ -239,10 +243,10 @@ module _ (z : Sizes) (l : Lent) (decisions : List ℕ) (r : Ready z (input l) de
     pub counts_asks : (a.stranded + a.committed ≤ z.linears) × (z.linears ≤ z.wires)
     counts_asks = (omega (arith, s, k, stranded_count, commit_count, counts.linears_count, before_count), omega (arith, definitions_few p.wires p.linears acc.once acc.named.destinations_named, before_count, same_wires))
 
-    pub counts_are : (x : Counts) → x ≡ counts_by z a n → x ≡ counts_of p c
+    pub counts_are : (x : Counts) → x ≡ counts_by z a (length terms) → x ≡ counts_of p c
     unfolding counts_by counts_of
     counts_are x d =
-        d ∙ same_counts_lem (omega (arith, s, k, stranded_count, commit_count, counts.linears_count, before_count)) (s ∙ stranded_count) (k ∙ commit_count) h.count
+        d ∙ same_counts_lem (omega (arith, s, k, stranded_count, commit_count, counts.linears_count, before_count)) (s ∙ stranded_count) (k ∙ commit_count) written_count
         (omega (arith, k, commit_count, counts.linears_count, counts.kept_count, before_count, same_wires))
       where
         same_counts_lem : {g g' i i' j j' w w' o o' : ℕ} → g ≡ g' → i ≡ i' → j ≡ j' → w ≡ w' → o ≡ o'
@@ -255,17 +259,17 @@ module _ (z : Sizes) (l : Lent) (decisions : List ℕ) (r : Ready z (input l) de
       → lent l.old a b i j k u v w ≡ lent l.old a' b' i' j' k' u' v' w'
   same-lent x₁ x₂ x₃ x₄ x₅ x₆ x₇ x₈ = rw (x₁, x₂, x₃, x₄, x₅, x₆, x₇, x₈)
 
-  pub left_is : (new' ands' imuls' bmuls' zeros' dsts' rhss' flags' : List ℕ) (from : ℕ)
-      → new' ≡ sets l.new 0 (take n (drop 0 out))
+  pub left_is : (new' ands' imuls' bmuls' zeros' dsts' rhss' flags' rest : List ℕ)
+      → new' ≡ sets l.new 0 terms
       → ands' ≡ sets l.ands 0 (rows_after test 3 z.ands l.ands list)
       → imuls' ≡ sets l.imuls 0 (rows_after test 4 z.imuls l.imuls (drop (from_imuls test z l.ands) list))
       → bmuls' ≡ sets l.bmuls 0 (rows_after test 6 z.bmuls l.bmuls (drop (from_bmuls test z l.ands l.imuls) list))
       → zeros' ≡ sets l.zeros 0 (rows_after test 1 z.zeros l.zeros (drop (from_zeros test z l.ands l.imuls l.bmuls) list))
-      → from ≡ from_commits test z l.ands l.imuls l.bmuls l.zeros
+      → rest ≡ drop (from_commits test z l.ands l.imuls l.bmuls l.zeros) list
       → dsts' ≡ sets l.dsts 0 (keep_from (is_stranded decisions reach) 0 (take z.linears l.dsts) ++ committed_wires t decisions 0 z.wires)
-      → rhss' ≡ sets l.rhss 0 (keep_from (is_stranded decisions reach) 0 (take z.linears l.rhss) ++ take (length (committed_wires t decisions 0 z.wires)) (drop from list))
+      → rhss' ≡ sets l.rhss 0 (keep_from (is_stranded decisions reach) 0 (take z.linears l.rhss) ++ take (length (committed_wires t decisions 0 z.wires)) rest)
       → flags' ≡ sets l.flags 0 (flags_from t decisions 0 z.wires)
       → lent l.old new' ands' imuls' bmuls' zeros' dsts' rhss' flags' ≡ leaves z l c
   unfolding leaves
-  left_is new' ands' imuls' bmuls' zeros' dsts' rhss' flags' from x₁ x₂ x₃ x₄ x₅ g x₆ x₇ x₈ =
-      same-lent (new_left new' x₁) (ands_left ands' x₂) (imuls_left imuls' x₃) (bmuls_left bmuls' x₄) (zeros_left zeros' x₅) (dsts_left dsts' x₆) (rhss_left rhss' from g x₇) (flags_left_lem flags' x₈)
+  left_is new' ands' imuls' bmuls' zeros' dsts' rhss' flags' rest x₁ x₂ x₃ x₄ x₅ g x₆ x₇ x₈ =
+      same-lent (new_left new' x₁) (ands_left ands' x₂) (imuls_left imuls' x₃) (bmuls_left bmuls' x₄) (zeros_left zeros' x₅) (dsts_left dsts' x₆) (rhss_left rhss' rest g x₇) (flags_left_lem flags' x₈)

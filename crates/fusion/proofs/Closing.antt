@@ -23,7 +23,7 @@ use Rattle.commit_set.proofs.Theorem.{decided_accepted}
 use Rattle.patch.specs.Patch.{commit_set, expand_operand, rebuilt, row_rebuilds, rebuilds}
 use Rattle.patch.proofs.Handles.{handles_length}
 use Rattle.apply.specs.Applied.{untouched, kept_rows, rows_after}
-use Rattle.fusion.specs.declared.Fused.TheVariants.{Done}
+use Rattle.std.specs.Prelude.{Ok}
 use Rattle.fusion.specs.Left.{Lent, input, fused, is_kept, numbers, has_room, counts_of, leaves}
 use Rattle.fusion.specs.Answer.{told_fused, Fuses, patches}
 use Rattle.fusion.proofs.Models.{keep_same, untouched-is}
@@ -60,7 +60,7 @@ module _ (z : Sizes) (l : Lent) (e : memory_fault 8192 z (input l) ≡ 0) (once 
 -- an answer, where the decisions are a solution and the whole result fits
 pub fuses_patched : (slots : ℕ) (z : Sizes) (l : Lent) (st : ℕ → Decision) → decision_fault slots z (input l) ≡ 0 → NoCircle (fused z l) → Solves slots (fused z l) st
     → has_room (fused z l) (commit_set (fused z l) st) l ≡ true
-    → Fuses slots z l (leaves z l (commit_set (fused z l) st)) (told_fused (Done (counts_of (fused z l) (commit_set (fused z l) st))))
+    → Fuses slots z l (leaves z l (commit_set (fused z l) st)) (told_fused (Ok (counts_of (fused z l) (commit_set (fused z l) st))))
 fuses_patched slots z l st f none solves fits =
     patches f none st
     (record {

@@ -4,7 +4,7 @@ use Prim.Native.Nat.{ℕ, suc, ◌+◌, ◌≤◌, ◌<◌}
 use native.Mathlib.Omega.{arith}
 use mathlib.Core.Bool.{Bool, true, false, cond}
 use mathlib.Core.List.{List, [], ◌∷◌, ◌++◌}
-use lib.ListN.{length, take, drop}
+use lib.ListN.{length, take}
 use lib.Seq.{sets, length-sets, length-take-le}
 use Rattle.apply.specs.Applied.{is_stranded, keep_from, committed_wires}
 use Rattle.apply.proofs.Closing.{sets_next}
@@ -23,7 +23,7 @@ keep_lengths q i (x ∷ a) (y ∷ b) e = go (q i) (keep_lengths q (suc i) a b (o
     go true k = ap suc k
     go false k = k
 
-module _ (dsts rhss : List ℕ) (n wires : ℕ) (decisions table reach list : List ℕ) (from : ℕ) (h : Closable dsts rhss n wires decisions table reach list from) where
+module _ (dsts rhss : List ℕ) (n wires : ℕ) (decisions table reach list : List ℕ) (h : Closable dsts rhss n wires decisions table reach list) where
   abbrev left : List ℕ → List ℕ
   left l = keep_from (is_stranded decisions reach) 0 (take n l)
 
@@ -35,7 +35,7 @@ module _ (dsts rhss : List ℕ) (n wires : ℕ) (decisions table reach list : Li
       keep_lengths (is_stranded decisions reach) 0 (take n dsts) (take n rhss) (length-take-le n dsts h.dsts_there ∙ sym (length-take-le n rhss h.rhss_there))
 
   module _ (dsts' rhss' : List ℕ) (at : ℕ) (d : dsts' ≡ sets dsts 0 (left dsts)) (g : rhss' ≡ sets rhss 0 (left rhss)) (a : at ≡ length (left dsts)) where
-    pub add_asks : (wires < 65536) × ((at + length added ≤ length dsts') × ((at + length added ≤ length rhss') × (from + length added ≤ length list)))
+    pub add_asks : (wires < 65536) × ((at + length added ≤ length dsts') × ((at + length added ≤ length rhss') × (length added ≤ length list)))
     add_asks = (
       h.wires_few,
       (
@@ -47,5 +47,5 @@ module _ (dsts rhss : List ℕ) (n wires : ℕ) (decisions table reach list : Li
     pub dsts_closed : (x : List ℕ) → x ≡ sets dsts' at added → x ≡ sets dsts 0 (left dsts ++ added)
     dsts_closed x e = e ∙ ap (λ (y : List ℕ). sets y at added) d ∙ sets_next dsts 0 at (left dsts) added (omega (arith, a))
 
-    pub rhss_closed : (x : List ℕ) → x ≡ sets rhss' at (take (length added) (drop from list)) → x ≡ sets rhss 0 (left rhss ++ take (length added) (drop from list))
-    rhss_closed x e = e ∙ ap (λ (y : List ℕ). sets y at (take (length added) (drop from list))) g ∙ sets_next rhss 0 at (left rhss) (take (length added) (drop from list)) (omega (arith, a, same_left))
+    pub rhss_closed : (x : List ℕ) → x ≡ sets rhss' at (take (length added) list) → x ≡ sets rhss 0 (left rhss ++ take (length added) list)
+    rhss_closed x e = e ∙ ap (λ (y : List ℕ). sets y at (take (length added) list)) g ∙ sets_next rhss 0 at (left rhss) (take (length added) list) (omega (arith, a, same_left))

@@ -5,21 +5,20 @@ use native.Mathlib.Omega.{arith}
 use native.Mathlib.Decide.{dec_lt}
 use mathlib.Core.Bool.{Bool, true, false}
 use mathlib.Core.List.{List, [], map}
-use lib.ListN.{length, take, drop, replicate, length-map}
+use lib.ListN.{length, take, replicate, length-map}
 use lib.Seq.{sets, take_all, length-sets}
 use borrow.Author.Tests.{lt-ltb, le-ltb}
 use Rattle.operand.specs.Numbers.{Term, term_number}
 use Rattle.lower.specs.declared.Sizes.{Sizes}
 use Rattle.lower.specs.Lists.{All, sum_of}
 use Rattle.lower.specs.Model.{System}
-use Rattle.lower.specs.Accepted.{Accepted, Once, Single}
+use Rattle.lower.specs.Accepted.{Accepted}
 use Rattle.lower.specs.Stores.{Stores, system_of, row_handles, Placed}
 use Rattle.lower.specs.Faults.{length_of, memory_fault}
 use Rattle.lower.proofs.Laws.{all_left, all_right}
 use Rattle.lower.proofs.Firsts.{part_all}
 use Rattle.lower.proofs.Checks.{checked, placed, memory_places, memory_definitions}
 use Rattle.legraph.specs.Tables.{numbered}
-use Rattle.legraph.specs.Walked.{rhs_in}
 use Rattle.legraph.proofs.Listing.{table_of, Defined, found_at}
 use Rattle.legraph.proofs.Theorem.{count, small, table_made}
 use Rattle.commit_set.proofs.Answers.{memory_none, slots_few}
@@ -34,10 +33,9 @@ use Rattle.patch.proofs.Built.{cut_none}
 use Rattle.patch.proofs.Lookables.{lookable, looks_room}
 use Rattle.patch.specs.Building.{Built, built, built_by, build_all, operands_in, Rooted, Buildable}
 use Rattle.reach.specs.Alive.{AliveIn}
-use Rattle.reach.specs.Steps.{Order}
 use Rattle.reach.proofs.Theorem.{ands_part, imuls_part, bmuls_part, zeros_part}
 use Rattle.fusion.specs.Left.{numbers}
-use Rattle.fusion.specs.Steps.{Ready, Ordered, chosen, numbers_in, Holds, Rebuilt}
+use Rattle.fusion.specs.Steps.{Ready, chosen, numbers_in, Holds, Rebuilt}
 use Rattle.fusion.proofs.System.{take_front}
 use Rattle.fusion.proofs.Rebuilding.{all_rooted, all_readable, rebuilds_few, source-within, rebuilding_fits, rebuilding_over}
 use Rattle.fusion.proofs.Closing.{numbers_length}
@@ -72,13 +70,11 @@ module _ (p : System) (c : ℕ → Bool) where
     list_is : list' ≡ sets list 0 (numbers p c)
     list_is = m.listed ∙ ap (sets list 0) (numbers_fit (length out) h)
 
-    pub rebuilt_holds : length (rebuilds p c) ≤ length list → Holds p c out' list' b.count
+    pub rebuilt_holds : length (rebuilds p c) ≤ length list → Holds p c (take b.count out') list'
     rebuilt_holds k =
         record {
-          count = ap (λ (x : Cursor). x.count) rebuilt-fits;
-          terms = ap (take (terms_written p c)) terms_are ∙ terms_taken;
+          terms = ap₂ {C = List ℕ} (λ (x : Cursor) (ts : List ℕ). take x.count ts) rebuilt-fits terms_are ∙ terms_taken;
           listed = ap (take (length (rebuilds p c))) list_is ∙ take_front (numbers p c) list (length (rebuilds p c)) (numbers_length p c) k;
-          terms_there = omega (arith, h, ap length terms_are, length-sets out 0 (map term_number (written p c)));
           there = omega (arith, k, ap length list_is, length-sets list 0 (numbers p c));
         }
 
@@ -107,12 +103,8 @@ module _ (z : Sizes) (s : Stores) (decisions : List ℕ) (r : Ready z s decision
   operands_few = rebuilds_few z s memory accepted c
 
   -- alive and reach are the lengths of the stores of masks
-  pub masks_asks : (table order : List ℕ) (left alive reach : ℕ) → Ordered z s table order left → alive ≡ 18432 → reach ≡ 1024
-      → (memory_fault 8192 z s ≡ 0)
-      × (Once p.linears × (Single p × (Order (rhs_in s.old s.new s.rhss) (numbered 0 (take z.linears s.dsts) (replicate 4096 0)) z.linears (drop left order) × ((left ≤ length order) × (z.linears ≤ length decisions) × (z.linears ≤ alive) × (z.linears ≤ reach)))))
-  masks_asks table order left alive reach k a b =
-      let n = memory_definitions 8192 z s memory in
-      (memory, (accepted.once, (accepted.single, (k.named, (k.within, r.long, omega (arith, n, a), omega (arith, n, b))))))
+  pub masks_room : (alive reach : ℕ) → alive ≡ 18432 → reach ≡ 1024 → (z.linears ≤ length decisions) × (z.linears ≤ alive) × (z.linears ≤ reach)
+  masks_room alive reach a b = let n = memory_definitions 8192 z s memory in (r.long, omega (arith, n, a), omega (arith, n, b))
 
   -- alive is the length of the store of masks
   pub looks_asks : (t : List ℕ) (alive : ℕ) → t ≡ numbered 0 (take z.linears s.dsts) (replicate 4096 0) → alive ≡ 18432

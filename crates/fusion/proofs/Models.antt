@@ -27,7 +27,7 @@ use Rattle.patch.specs.Patch.{committed_at, commit_set, entry, commit_at, rhss_o
 use Rattle.patch.specs.Handles.{commits_from}
 use Rattle.patch.specs.Spelling.{Source, source, names_one, row_names}
 use Rattle.patch.specs.Building as B
-use Rattle.patch.specs.Building.{rows_in_lem, commits_in, operands_in}
+use Rattle.patch.specs.Building.{rows_in, commits_in, operands_in}
 use Rattle.patch.proofs.Parts.{lost, Which, is_true, is_false, which}
 use Rattle.patch.proofs.Handles.{commits_are}
 use Rattle.reach.proofs.Masking.{committed-number}
@@ -117,8 +117,8 @@ module _ (z : Sizes) (s : Stores) (e : memory_fault 8192 z s ≡ 0) (once : Once
 
   -- ---- operands
 
-  rows_are : (k n : ℕ) (hs : List ℕ) (out : List ℕ) → rows_in_lem (source s.old s.new s.rhss table decisions out) k n hs ≡ row_rebuilds p c (rows_of f k n hs)
-  unfolding rows_in_lem row_rebuilds
+  rows_are : (k n : ℕ) (hs : List ℕ) (out : List ℕ) → rows_in (source s.old s.new s.rhss table decisions out) k n hs ≡ row_rebuilds p c (rows_of f k n hs)
+  unfolding rows_in row_rebuilds
   rows_are k n hs out = ap joined (keep_same (row_names table) (rebuilt p.linears) names_are (rows_of f k n hs))
 
   module _ (out : List ℕ) where

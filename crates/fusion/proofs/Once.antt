@@ -3,7 +3,7 @@ use mathlib.Core.Path.{◌≡◌, refl, sym, ap, ◌∙◌}
 use Prim.Native.Nat.{ℕ, ◌+◌}
 use mathlib.Core.Bool.{Bool}
 use mathlib.Core.List.{List}
-use lib.ListN.{length, drop}
+use lib.ListN.{length}
 use Rattle.word.specs.Answers as T
 use Rattle.word.specs.Answers.{Told}
 use Rattle.lower.specs.declared.Sizes.{Sizes}
@@ -22,7 +22,7 @@ use Rattle.patch.proofs.Counting.{counted}
 use Rattle.reach.specs.Reach.{ReachIn}
 use Rattle.reach.specs.Steps.{Filled}
 use Rattle.reach.proofs.Once.{reach_once}
-use Rattle.fusion.specs.declared.Fused.TheVariants.{Done}
+use Rattle.std.specs.Prelude.{Ok}
 use Rattle.fusion.specs.Left.{Lent, input, fused, has_room, counts_of, leaves}
 use Rattle.fusion.specs.Answer.{told_fused, Fuses, refused, circular, short, patches}
 use Rattle.fusion.specs.Steps.{Ready, Ordered, chosen, Rebuilt}
@@ -33,11 +33,11 @@ pub rebuilt_once : (p : System) (c : ℕ → Bool) (out list o₁ o₂ l₁ l₂
 rebuilt_once p c out list o₁ o₂ l₁ l₂ b₁ b₂ x y = (x.cursor ∙ sym y.cursor, x.terms ∙ sym y.terms, x.listed ∙ sym y.listed)
 
 -- the masks of the definitions that are met
-pub rebuilt_reach_once : (z : Sizes) (s : Stores) (decisions table order : List ℕ) (left : ℕ) → Ready z s decisions → Ordered z s table order left → (before a b : List ℕ)
+pub rebuilt_reach_once : (z : Sizes) (s : Stores) (decisions table order : List ℕ) → Ready z s decisions → Ordered z s table order → (before a b : List ℕ)
     → ReachIn (system_of z s) (chosen z s decisions) z.linears s.dsts a → Filled z.linears before a
     → ReachIn (system_of z s) (chosen z s decisions) z.linears s.dsts b → Filled z.linears before b → a ≡ b
-rebuilt_reach_once z s decisions table order left r o before a b =
-    reach_once z s (memory z s decisions r) (accepted z s decisions r).once (chosen z s decisions) (drop left order) o.named before a b
+rebuilt_reach_once z s decisions table order r o before a b =
+    reach_once z s (memory z s decisions r) (accepted z s decisions r).once (chosen z s decisions) order o.named before a b
 
 -- "Definitions before = gone + stranded + committed"
 pub fused_counts : (z : Sizes) (l : Lent) (c : ℕ → Bool) → Accepted (fused z l)
@@ -76,6 +76,6 @@ module _ (slots : ℕ) (z : Sizes) (l : Lent) where
   fuses_once r₁ r₂ l₁ l₂ (patches f n st y) (short f' n' st' s g k') = absurd (clash (one_room f n st' st s y.solves ∙ y.fits) g)
   fuses_once r₁ r₂ l₁ l₂ (patches f n st y) (patches f' n' st' y') =
       let same = one_set f n st st' y.solves y'.solves in (
-        ap (λ (c : ℕ → Bool). told_fused (Done (counts_of (fused z l) c))) same,
+        ap (λ (c : ℕ → Bool). told_fused (Ok (counts_of (fused z l) c))) same,
         y.left ∙ ap (leaves z l) same ∙ sym y'.left,
       )

@@ -28,7 +28,7 @@ use Rattle.patch.specs.Expansion.{expand, Fits, Within}
 use Rattle.patch.specs.Patch.{commit_set, inlined, depth, expand_term, expand_operand, rebuilt, row_rebuilds, rhss_of, rebuilds, written, terms_written, commits, NeverOver}
 use Rattle.patch.specs.Handles.{handles_from, cut_at}
 use Rattle.patch.specs.Steps.{wrote, Spilt, Does}
-use Rattle.patch.specs.Spelling.{Source, source, in_place_lem, spell, Looks, Readable}
+use Rattle.patch.specs.Spelling.{Source, source, in_place, spell, Looks, Readable}
 use Rattle.patch.specs.Building.{built, build_all, Rooted, operands_in}
 use Rattle.patch.proofs.Parts.{all_each, all_two}
 use Rattle.patch.proofs.Chains.{deep}
@@ -114,7 +114,7 @@ module _ (slots : ℕ) (z : Sizes) (s : Stores) (e : memory_fault 8192 z s ≡ 0
   abbrev src : Source
   src = source s.old s.new s.rhss (table_of 4096 p) decisions alive
 
-  same_place : in_place_lem src ≡ inlined p c
+  same_place : in_place src ≡ inlined p c
   same_place = fun_ext (place_is z s e acc.once decisions alive)
 
   over : NeverOver p c
@@ -125,7 +125,7 @@ module _ (slots : ℕ) (z : Sizes) (s : Stores) (e : memory_fault 8192 z s ≡ 0
   deep_enough = count z s e
 
   -- no chain of definitions is longer than there are definitions
-  pub source-within : (w : ℕ) → Within (in_place_lem src) z.linears w
+  pub source-within : (w : ℕ) → Within (in_place src) z.linears w
   source-within w = subst (λ (D : ℕ → Option Operand). Within D z.linears w) (sym same_place) (subst (λ (n : ℕ). Within (inlined p c) n w) deep_enough (deep p c acc.no_circle w))
 
   term_writes : (t : Term) → Fits (inlined p c) (depth p c) t → Writes (spell src z.linears) (expand_term p c) t

@@ -1,9 +1,9 @@
 // The fusion pass: decide, rebuild, patch. Follows frontend/src/pass/fusion.
 #![tactic(auto)]
 
-ghost use Rattle.std.specs.Prelude.{◌≡◌, true, [], ◌++◌, ◌+◌, ◌≤◌, length, take, drop, replicate};
+ghost use Rattle.std.specs.Prelude.{◌≡◌, true, [], ◌++◌, ◌≤◌, ◌+◌, length, take, replicate};
 ghost use Rattle.std.proofs.lemmas.List.Edits.{sets};
-ghost use Rattle.lower.specs.Stores.{stores, system_of};
+ghost use Rattle.lower.specs.Stores.{stores, stores_of, system_in, system_of};
 ghost use Rattle.legraph.specs.Tables.{numbered};
 ghost use Rattle.commit_set.specs.Answer.{decision_fault};
 ghost use Rattle.reach.specs.Reach.{ReachIn};
@@ -11,10 +11,12 @@ ghost use Rattle.reach.specs.Steps.{Filled};
 ghost use Rattle.apply.specs.Applied.{is_stranded, keep_from, committed_wires};
 ghost use Rattle.fusion.specs.Left.{lent, has_room, counts_of, leaves};
 ghost use Rattle.fusion.specs.Answer.{told_fused, Fuses};
-ghost use Rattle.fusion.specs.Steps.{Ready, Ordered, chosen, Holds, Rebuilt, lacks_room, Closable, counts_by, Patched};
+ghost use Rattle.fusion.specs.Steps.{Ready, Ordered, chosen, Holds, Rebuilt, lacks_room, Closable, counts_by, Fresh, Prepares};
 
-use lower::Sizes;
+use lower::{LentSystem, Sizes};
+use operand::TermStores;
 use patch::Cursor;
+use refusal::Refusal;
 
 // Operands of rebuilt constraints: six at most of each of 1,024, and one of each of 1,024 definitions.
 const MAX_OPERANDS: usize = 7168;
@@ -23,7 +25,7 @@ const MAX_OPERANDS: usize = 7168;
 const MAX_NEW_TERMS: usize = 16384;
 
 // What is told of a patched system.
-#[derive(Clone, Copy)]
+#[derive(Clone, Copy, Debug, PartialEq, Eq)]
 pub struct Counts {
     pub gone: usize,
     pub stranded: usize,
@@ -41,26 +43,12 @@ struct Linears {
     committed: usize,
 }
 
-#[derive(Clone, Copy)]
-pub enum Fused {
-    Done(Counts),
-    Refused(u8),
-}
-
 // Whether the result does not fit.
+#[tactic(auto, unfolding(crate::specs::Steps::lacks_room))]
 fn lacks_room(c: Cursor, new: usize, flags: usize, wires: usize) -> bool
     ensures { result ≡ lacks_room c new flags wires }
 {
-    if c.full {
-        return true;
-    }
-    if new < c.count {
-        return true;
-    }
-    if flags < wires {
-        return true;
-    }
-    false
+    c.full || new < c.count || flags < wires
 }
 
 // Definitions: stranded ones are moved down, and committed ones stand after them.
@@ -73,16 +61,16 @@ fn patch_definitions(
     table: &[u16],
     reach: &[u64],
     list: &[u64],
-    from: usize,
 ) -> Linears
-    requires { Closable dsts.old rhss.old n wires decisions.now table.now reach.now list.now from }
+    requires { Closable dsts.old rhss.old n wires decisions.now table.now reach.now list.now }
     ensures dsts_after { dsts.new ≡ sets dsts.old 0 (keep_from (is_stranded decisions.now reach.now) 0 (take n dsts.old) ++ committed_wires table.now decisions.now 0 wires) }
-    ensures rhss_after { rhss.new ≡ sets rhss.old 0 (keep_from (is_stranded decisions.now reach.now) 0 (take n rhss.old) ++ take (length (committed_wires table.now decisions.now 0 wires)) (drop from list.now)) }
-    ensures stranded_value { (result.stranded ≡ length (keep_from (is_stranded decisions.now reach.now) 0 (take n dsts.old))) × (result.committed ≡ length (committed_wires table.now decisions.now 0 wires)) }
+    ensures rhss_after { rhss.new ≡ sets rhss.old 0 (keep_from (is_stranded decisions.now reach.now) 0 (take n rhss.old) ++ take (length (committed_wires table.now decisions.now 0 wires)) list.now) }
+    ensures stranded { result.stranded ≡ length (keep_from (is_stranded decisions.now reach.now) 0 (take n dsts.old)) }
+    ensures committed { result.committed ≡ length (committed_wires table.now decisions.now 0 wires) }
 {
     let stranded = apply::retain_stranded(&mut *dsts, &mut *rhss, n, decisions, reach);
     let committed = apply::add_committed(
-        &mut *dsts, &mut *rhss, stranded, wires, table, decisions, list, from,
+        &mut *dsts, &mut *rhss, stranded, wires, table, decisions, list,
     );
     Linears {
         stranded,
@@ -90,6 +78,7 @@ fn patch_definitions(
     }
 }
 
+#[tactic(auto, unfolding(crate::specs::Steps::counts_by))]
 fn count_all(z: Sizes, l: Linears, written: usize) -> Counts
     requires { (l.stranded + l.committed ≤ z.linears) × (z.linears ≤ z.wires) }
     ensures { result ≡ counts_by z l written }
@@ -107,7 +96,7 @@ fn count_all(z: Sizes, l: Linears, written: usize) -> Counts
     }
 }
 
-// Writes the patched system over the old one.
+// Writes the patched system over the old one, with the new terms and the numbers of their operands.
 fn apply_patches(
     old: &[u64],
     new: &mut [u64],
@@ -122,24 +111,23 @@ fn apply_patches(
     decisions: &[u64],
     table: &[u16],
     reach: &[u64],
-    out: &[u64],
+    terms: &[u64],
     list: &[u64],
-    count: usize,
 ) -> Counts
     requires ready { Ready z (stores old.now [] ands.old imuls.old bmuls.old zeros.old dsts.old rhss.old) decisions.now }
-    requires table_value { table.now ≡ numbered 0 (take z.linears dsts.old) (replicate 4096 0) }
+    requires table_of_definitions { table.now ≡ numbered 0 (take z.linears dsts.old) (replicate 4096 0) }
     requires reach_in { ReachIn (system_of z (stores old.now [] ands.old imuls.old bmuls.old zeros.old dsts.old rhss.old)) (chosen z (stores old.now [] ands.old imuls.old bmuls.old zeros.old dsts.old rhss.old) decisions.now) z.linears dsts.old reach.now }
-    requires holds { Holds (system_of z (stores old.now [] ands.old imuls.old bmuls.old zeros.old dsts.old rhss.old)) (chosen z (stores old.now [] ands.old imuls.old bmuls.old zeros.old dsts.old rhss.old) decisions.now) out.now list.now count }
-    requires flags_value { has_room (system_of z (stores old.now [] ands.old imuls.old bmuls.old zeros.old dsts.old rhss.old)) (chosen z (stores old.now [] ands.old imuls.old bmuls.old zeros.old dsts.old rhss.old) decisions.now) (lent old.now new.old ands.old imuls.old bmuls.old zeros.old dsts.old rhss.old flags.old) ≡ true }
-    ensures flags_after { lent old.now new.new ands.new imuls.new bmuls.new zeros.new dsts.new rhss.new flags.new ≡ leaves z (lent old.now new.old ands.old imuls.old bmuls.old zeros.old dsts.old rhss.old flags.old) (chosen z (stores old.now [] ands.old imuls.old bmuls.old zeros.old dsts.old rhss.old) decisions.now) }
-    ensures value { result ≡ counts_of (system_of z (stores old.now [] ands.old imuls.old bmuls.old zeros.old dsts.old rhss.old)) (chosen z (stores old.now [] ands.old imuls.old bmuls.old zeros.old dsts.old rhss.old) decisions.now) }
+    requires holds { Holds (system_of z (stores old.now [] ands.old imuls.old bmuls.old zeros.old dsts.old rhss.old)) (chosen z (stores old.now [] ands.old imuls.old bmuls.old zeros.old dsts.old rhss.old) decisions.now) terms.now list.now }
+    requires room { has_room (system_of z (stores old.now [] ands.old imuls.old bmuls.old zeros.old dsts.old rhss.old)) (chosen z (stores old.now [] ands.old imuls.old bmuls.old zeros.old dsts.old rhss.old) decisions.now) (lent old.now new.old ands.old imuls.old bmuls.old zeros.old dsts.old rhss.old flags.old) ≡ true }
+    ensures left { lent old.now new.new ands.new imuls.new bmuls.new zeros.new dsts.new rhss.new flags.new ≡ leaves z (lent old.now new.old ands.old imuls.old bmuls.old zeros.old dsts.old rhss.old flags.old) (chosen z (stores old.now [] ands.old imuls.old bmuls.old zeros.old dsts.old rhss.old) decisions.now) }
+    ensures counts { result ≡ counts_of (system_of z (stores old.now [] ands.old imuls.old bmuls.old zeros.old dsts.old rhss.old)) (chosen z (stores old.now [] ands.old imuls.old bmuls.old zeros.old dsts.old rhss.old) decisions.now) }
 {
     let n = z.linears;
     let wires = z.wires;
-    apply::extend(&mut *new, 0, out, 0, count);
-    let from = apply::patch_lists(
-        old,
-        &old[0..0],
+    apply::extend(&mut *new, 0, terms);
+    let stores = TermStores { old, new: &[] };
+    let rest = apply::patch_lists(
+        &stores,
         &mut *ands,
         &mut *imuls,
         &mut *bmuls,
@@ -149,10 +137,10 @@ fn apply_patches(
         list,
     );
     let l = patch_definitions(
-        &mut *dsts, &mut *rhss, n, wires, decisions, table, reach, list, from,
+        &mut *dsts, &mut *rhss, n, wires, decisions, table, reach, rest,
     );
     apply::write_flags(&mut *flags, wires, table, decisions);
-    count_all(z, l, count)
+    count_all(z, l, terms.len())
 }
 
 // One mask a definition, one place a definition where the masks of its terms begin, and a mask and an entry a term.
@@ -160,222 +148,60 @@ const MAX_MASKS: usize = 18432;
 
 // The masks of the definitions and of their terms, and with them all operands that are rebuilt.
 fn rebuild(
-    old: &[u64],
-    ands: &[u64],
-    imuls: &[u64],
-    bmuls: &[u64],
-    zeros: &[u64],
-    dsts: &[u16],
-    rhss: &[u64],
-    z: Sizes,
+    system: &LentSystem<'_>,
     decisions: &[u64],
     table: &[u16],
     order: &[u16],
-    left: usize,
     reach: &mut [u64],
     out: &mut [u64],
     list: &mut [u64],
 ) -> Cursor
-    requires ready { Ready z (stores old.now [] ands.now imuls.now bmuls.now zeros.now dsts.now rhss.now) decisions.now }
-    requires ordered { Ordered z (stores old.now [] ands.now imuls.now bmuls.now zeros.now dsts.now rhss.now) table.now order.now left }
-    requires reach_len { (length reach.old ≡ 1024) × (length out.old ≡ 16384) × (length list.old ≡ 7168) }
-    ensures reach_in { ReachIn (system_of z (stores old.now [] ands.now imuls.now bmuls.now zeros.now dsts.now rhss.now)) (chosen z (stores old.now [] ands.now imuls.now bmuls.now zeros.now dsts.now rhss.now) decisions.now) z.linears dsts.now reach.new }
-    ensures filled { Filled z.linears reach.old reach.new }
-    ensures rebuilt { Rebuilt (system_of z (stores old.now [] ands.now imuls.now bmuls.now zeros.now dsts.now rhss.now)) (chosen z (stores old.now [] ands.now imuls.now bmuls.now zeros.now dsts.now rhss.now) decisions.now) out.old list.old out.new list.new result }
+    requires ready { Ready system.now.sizes (stores_of system.now) decisions.now }
+    requires ordered { Ordered system.now.sizes (stores_of system.now) table.now order.now }
+    requires lengths { (length reach.old ≡ 1024) × (length out.old ≡ 16384) × (length list.old ≡ 7168) }
+    ensures reach_in { ReachIn (system_in system.now) (chosen system.now.sizes (stores_of system.now) decisions.now) system.now.sizes.linears system.now.dsts.now reach.new }
+    ensures filled { Filled system.now.sizes.linears reach.old reach.new }
+    ensures rebuilt { Rebuilt (system_in system.now) (chosen system.now.sizes (stores_of system.now) decisions.now) out.old list.old out.new list.new result }
 {
-    let n = z.linears;
+    let n = system.sizes.linears;
     let mut alive = [0u64; MAX_MASKS];
-    reach::masks(
-        old,
-        &old[0..0],
-        ands,
-        imuls,
-        bmuls,
-        zeros,
-        dsts,
-        rhss,
-        z,
-        decisions,
-        order,
-        left,
-        &mut alive,
-        &mut *reach,
-    );
-    patch::expand::write_looks(old, &old[0..0], rhss, table, decisions, &mut alive, n);
-    let b = patch::build::build(
-        old,
-        &old[0..0],
-        ands,
-        imuls,
-        bmuls,
-        zeros,
-        rhss,
-        z,
-        table,
-        decisions,
-        &alive,
-        &mut *out,
-        &mut *list,
-    );
+    reach::masks(system, decisions, order, &mut alive, &mut *reach);
+    patch::expand::write_looks(&system.stores, system.rhss, table, decisions, &mut alive, n);
+    let b = patch::build::build(system, table, decisions, &alive, &mut *out, &mut *list);
     b.cursor
 }
 
-// Rebuilds and patches a system that is decided, or answers 12.
-fn patch_decided(
-    old: &[u64],
-    new: &mut [u64],
-    ands: &mut [u64],
-    imuls: &mut [u64],
-    bmuls: &mut [u64],
-    zeros: &mut [u64],
-    dsts: &mut [u16],
-    rhss: &mut [u64],
-    flags: &mut [u8],
-    z: Sizes,
-    decisions: &[u64],
-    table: &[u16],
-    order: &[u16],
-    left: usize,
-) -> Fused
-    requires ready { Ready z (stores old.now [] ands.old imuls.old bmuls.old zeros.old dsts.old rhss.old) decisions.now }
-    requires ordered { Ordered z (stores old.now [] ands.old imuls.old bmuls.old zeros.old dsts.old rhss.old) table.now order.now left }
-    ensures { Patched z decisions.now (lent old.now new.old ands.old imuls.old bmuls.old zeros.old dsts.old rhss.old flags.old) (lent old.now new.new ands.new imuls.new bmuls.new zeros.new dsts.new rhss.new flags.new) (told_fused result) }
-{
-    let wires = z.wires;
-    let mut reach = [0u64; lower::MAX_DEFINITIONS];
-    let mut out = [0u64; MAX_NEW_TERMS];
-    let mut list = [0u64; MAX_OPERANDS];
-    let c = rebuild(
-        old, &*ands, &*imuls, &*bmuls, &*zeros, &*dsts, &*rhss, z, decisions, table, order, left,
-        &mut reach, &mut out, &mut list,
-    );
-    if lacks_room(c, new.len(), flags.len(), wires) {
-        return Fused::Refused(commit_set::ROOM);
-    }
-    Fused::Done(apply_patches(
-        old,
-        &mut *new,
-        &mut *ands,
-        &mut *imuls,
-        &mut *bmuls,
-        &mut *zeros,
-        &mut *dsts,
-        &mut *rhss,
-        &mut *flags,
-        z,
-        decisions,
-        table,
-        &reach,
-        &out,
-        &list,
-        c.count,
-    ))
-}
-
-// Decides a system by an order of its definitions, and patches it.
-fn fuse_in_order(
-    old: &[u64],
-    new: &mut [u64],
-    ands: &mut [u64],
-    imuls: &mut [u64],
-    bmuls: &mut [u64],
-    zeros: &mut [u64],
-    dsts: &mut [u16],
-    rhss: &mut [u64],
-    flags: &mut [u8],
-    z: Sizes,
-    table: &[u16],
-    order: &[u16],
-    left: usize,
+// Decides and rebuilds a system that the checks have found nothing in, or refuses it for a circle. One table and one walk serve the
+// decisions and the masks.
+fn prepare(
+    system: &LentSystem<'_>,
     slots: u8,
-) -> Fused
-    requires rhss_value { decision_fault slots z (stores old.now [] ands.old imuls.old bmuls.old zeros.old dsts.old rhss.old) ≡ 0 }
-    requires ordered { Ordered z (stores old.now [] ands.old imuls.old bmuls.old zeros.old dsts.old rhss.old) table.now order.now left }
-    ensures { Fuses slots z (lent old.now new.old ands.old imuls.old bmuls.old zeros.old dsts.old rhss.old flags.old) (lent old.now new.new ands.new imuls.new bmuls.new zeros.new dsts.new rhss.new flags.new) (told_fused result) }
+    table: &mut [u16],
+    decisions: &mut [u64],
+    reach: &mut [u64],
+    out: &mut [u64],
+    list: &mut [u64],
+) -> Result<Cursor, Refusal>
+    requires no_fault { decision_fault slots system.now.sizes (stores_of system.now) ≡ 0 }
+    requires fresh { Fresh table.old decisions.old reach.old out.old list.old }
+    ensures { Prepares slots system.now.sizes (stores_of system.now) table.new decisions.new reach.new out.old list.old out.new list.new result }
 {
-    let mut decisions = [0u64; lower::MAX_DEFINITIONS];
-    commit_set::decide_in_order(
-        old,
-        &old[0..0],
-        &*ands,
-        &*imuls,
-        &*bmuls,
-        &*zeros,
-        &*dsts,
-        &*rhss,
-        z,
-        table,
-        order,
-        left,
-        slots,
-        &mut decisions,
-    );
-    patch_decided(
-        old,
-        &mut *new,
-        &mut *ands,
-        &mut *imuls,
-        &mut *bmuls,
-        &mut *zeros,
-        &mut *dsts,
-        &mut *rhss,
-        &mut *flags,
-        z,
-        &decisions,
-        table,
-        order,
-        left,
-    )
-}
-
-// Fuses a system that the checks have found nothing in, or answers 11 or 12. One table and one walk serve the decisions and the masks.
-fn fuse_checked(
-    old: &[u64],
-    new: &mut [u64],
-    ands: &mut [u64],
-    imuls: &mut [u64],
-    bmuls: &mut [u64],
-    zeros: &mut [u64],
-    dsts: &mut [u16],
-    rhss: &mut [u64],
-    flags: &mut [u8],
-    z: Sizes,
-    slots: u8,
-) -> Fused
-    requires { decision_fault slots z (stores old.now [] ands.old imuls.old bmuls.old zeros.old dsts.old rhss.old) ≡ 0 }
-    ensures { Fuses slots z (lent old.now new.old ands.old imuls.old bmuls.old zeros.old dsts.old rhss.old flags.old) (lent old.now new.new ands.new imuls.new bmuls.new zeros.new dsts.new rhss.new flags.new) (told_fused result) }
-{
-    let n = z.linears;
-    let mut table = [0u16; lower::MAX_WIRES];
-    let mut order = [0u16; lower::MAX_DEFINITIONS];
-    let walked = commit_set::order_definitions(
-        old,
-        &old[0..0],
-        &*dsts,
-        &*rhss,
-        n,
-        &mut table,
-        &mut order,
-    );
+    let mut all = [0u16; lower::MAX_DEFINITIONS];
+    let walked = commit_set::order_definitions(system, &mut *table, &mut all);
     if walked.circle {
-        return Fused::Refused(commit_set::CIRCLE);
+        return Err(Refusal::Circle);
     }
-    fuse_in_order(
-        old,
-        &mut *new,
-        &mut *ands,
-        &mut *imuls,
-        &mut *bmuls,
-        &mut *zeros,
-        &mut *dsts,
-        &mut *rhss,
-        &mut *flags,
-        z,
-        &table,
-        &order,
-        walked.left,
-        slots,
-    )
+    let order = &all[walked.left..];
+    commit_set::decide_in_order(system, &*table, order, slots, &mut *decisions);
+    Ok(rebuild(
+        system,
+        &*decisions,
+        &*table,
+        order,
+        &mut *reach,
+        &mut *out,
+        &mut *list,
+    ))
 }
 
 // Fuses a system in the lent stores with so many slots a term: its lists are patched, `new` has the new terms and `flags` the committed
@@ -392,25 +218,39 @@ pub fn fuse(
     flags: &mut [u8],
     z: Sizes,
     slots: u64,
-) -> Fused
+) -> Result<Counts, Refusal>
     ensures { Fuses slots z (lent old.now new.old ands.old imuls.old bmuls.old zeros.old dsts.old rhss.old flags.old) (lent old.now new.new ands.new imuls.new bmuls.new zeros.new dsts.new rhss.new flags.new) (told_fused result) }
 {
-    let fault = commit_set::check(
-        old,
-        &old[0..0],
-        &*ands,
-        &*imuls,
-        &*bmuls,
-        &*zeros,
-        &*dsts,
-        &*rhss,
-        z,
-        slots,
-    );
-    if fault != 0 {
-        return Fused::Refused(fault);
+    // Ahead of all else, so that they are cleared once: a function's locals are cleared as it begins.
+    let mut table = [0u16; lower::MAX_WIRES];
+    let mut decisions = [0u64; lower::MAX_DEFINITIONS];
+    let mut reach = [0u64; lower::MAX_DEFINITIONS];
+    let mut out = [0u64; MAX_NEW_TERMS];
+    let mut list = [0u64; MAX_OPERANDS];
+    let system = LentSystem {
+        stores: TermStores { old, new: &[] },
+        ands: &*ands,
+        imuls: &*imuls,
+        bmuls: &*bmuls,
+        zeros: &*zeros,
+        dsts: &*dsts,
+        rhss: &*rhss,
+        sizes: z,
+    };
+    commit_set::check(&system, slots)?;
+    let cursor = prepare(
+        &system,
+        slots as u8,
+        &mut table,
+        &mut decisions,
+        &mut reach,
+        &mut out,
+        &mut list,
+    )?;
+    if lacks_room(cursor, new.len(), flags.len(), z.wires) {
+        return Err(Refusal::Room);
     }
-    fuse_checked(
+    Ok(apply_patches(
         old,
         &mut *new,
         &mut *ands,
@@ -421,6 +261,10 @@ pub fn fuse(
         &mut *rhss,
         &mut *flags,
         z,
-        slots as u8,
-    )
+        &decisions,
+        &table,
+        &reach,
+        &out[..cursor.count],
+        &list,
+    ))
 }

@@ -13,13 +13,12 @@ use Rattle.lower.specs.Model.{System}
 use Rattle.lower.specs.Faults.{SHAPE, WIRE, FULL, term_fault}
 use Rattle.word.specs.Answers.{SHIFT}
 use Rattle.house_file.specs.Format.{terms_bytes, operands_bytes, payload_bytes, entry_bytes, list_bytes, file_bytes, entries_of, file_of, system_from, arity}
-use Rattle.house_file.specs.Decoding.{u16_at, term_at, terms_at, operands_at, operands_next_lem, operands_terms, operands_start, entry_at, entries_at}
-use Rattle.house_file.specs.Reading.{CUT, TAG, END, head_fault, operand_fault, operands_fault, destination_fault, payload_fault, counted, full_fault, counts_after, field_fault, turn_by, turn_of, follow, read_from, wires_fault, read_by, read_of, entries_read}
+use Rattle.house_file.specs.Decoding.{u16_at, term_at, terms_at, operands_at, operands_next, operands_terms, operands_start, entry_at, entries_at}
+use Rattle.house_file.specs.Reading.{CUT, TAG, END, head_fault, operand_fault, operands_fault, destination_fault, payload_fault, counted, full_fault, counts_after, field_fault, turn_by, turn_of, Fault, fault, follow, read_from, wires_fault, read_by, read_of, entries_read}
 use Rattle.house_file.specs.declared.Counts.{Counts}
-use Rattle.house_file.specs.declared.Read.{Read}
-use Rattle.house_file.specs.declared.Read.TheVariants.{Refused, Done}
-use Rattle.house_file.specs.declared.Turn.{Turn}
-use Rattle.house_file.specs.declared.Turn.TheVariants.{Go}
+use Rattle.house_file.specs.declared.FileRead.{FileRead}
+use Rattle.house_file.specs.declared.Place.{Place}
+use Rattle.std.specs.Prelude.{Option, Some, Result, Ok, Err}
 
 abbrev term : ℕ → ℕ → Term
 term w s = record { wire = w; inner = s; outer = 0 }
@@ -51,76 +50,76 @@ example_written = refl
 abbrev sizes : Sizes
 sizes = record { wires = 3; ands = 0; imuls = 0; bmuls = 0; zeros = 1; linears = 2 }
 
-pub example_read : read_of example ≡ Done sizes 3
-unfolding read_of wires_fault read_from turn_of turn_by field_fault counts_after full_fault counted payload_fault destination_fault operands_fault operand_fault head_fault term_fault arity u16_at term_at terms_at operands_next_lem operands_terms operands_start
+pub example_read : read_of example ≡ Ok (record { sizes = sizes; terms = 3 })
+unfolding read_of wires_fault read_from turn_of turn_by field_fault counts_after full_fault counted payload_fault destination_fault operands_fault operand_fault head_fault term_fault arity u16_at term_at terms_at operands_next operands_terms operands_start
 example_read = refl
 
-pub example_system : system_from 3 (entries_read example (Done sizes 3)) ≡ system
+pub example_system : system_from 3 (entries_read {E = Fault} example (Ok (record { sizes = sizes; terms = 3 }))) ≡ system
 unfolding system_from entries_at entry_at operands_at terms_at term_at u16_at arity operands_start
 example_system = refl
 
 -- nothing; two bytes of a bad tag; no end field; a bad tag whose payload lies beyond the input; the first tag again; a wire count of 0
-pub empty_cut : read_of [] ≡ Refused CUT 0
+pub empty_cut : read_of [] ≡ Err (fault CUT 0)
 unfolding read_of wires_fault head_fault
 empty_cut = refl
 
-pub short_cut : read_of (9 ∷ 9 ∷ []) ≡ Refused CUT 0
+pub short_cut : read_of (9 ∷ 9 ∷ []) ≡ Err (fault CUT 0)
 unfolding read_of wires_fault head_fault
 short_cut = refl
 
-pub endless_cut : read_of (1 ∷ 2 ∷ 0 ∷ 1 ∷ 0 ∷ []) ≡ Refused CUT 5
+pub endless_cut : read_of (1 ∷ 2 ∷ 0 ∷ 1 ∷ 0 ∷ []) ≡ Err (fault CUT 5)
 unfolding read_of wires_fault read_from turn_of turn_by field_fault head_fault u16_at
 endless_cut = refl
 
-pub beyond_tag : read_of (1 ∷ 2 ∷ 0 ∷ 1 ∷ 0 ∷ 8 ∷ 1 ∷ 0 ∷ []) ≡ Refused TAG 5
+pub beyond_tag : read_of (1 ∷ 2 ∷ 0 ∷ 1 ∷ 0 ∷ 8 ∷ 1 ∷ 0 ∷ []) ≡ Err (fault TAG 5)
 unfolding read_of wires_fault read_from turn_of turn_by field_fault head_fault u16_at
 beyond_tag = refl
 
-pub again_tag : read_of (1 ∷ 2 ∷ 0 ∷ 1 ∷ 0 ∷ 1 ∷ 2 ∷ 0 ∷ 1 ∷ 0 ∷ 7 ∷ 0 ∷ 0 ∷ []) ≡ Refused TAG 5
+pub again_tag : read_of (1 ∷ 2 ∷ 0 ∷ 1 ∷ 0 ∷ 1 ∷ 2 ∷ 0 ∷ 1 ∷ 0 ∷ 7 ∷ 0 ∷ 0 ∷ []) ≡ Err (fault TAG 5)
 unfolding read_of wires_fault read_from turn_of turn_by field_fault head_fault u16_at
 again_tag = refl
 
-pub wireless_full : read_of (1 ∷ 2 ∷ 0 ∷ 0 ∷ 0 ∷ 7 ∷ 0 ∷ 0 ∷ []) ≡ Refused FULL 0
+pub wireless_full : read_of (1 ∷ 2 ∷ 0 ∷ 0 ∷ 0 ∷ 7 ∷ 0 ∷ 0 ∷ []) ≡ Err (fault FULL 0)
 unfolding read_of wires_fault head_fault u16_at
 wireless_full = refl
 
 -- a first field of three bytes, whose wire count of 0 is not looked at
-pub first_shape : read_of (1 ∷ 3 ∷ 0 ∷ 0 ∷ 0 ∷ 0 ∷ 7 ∷ 0 ∷ 0 ∷ []) ≡ Refused SHAPE 0
+pub first_shape : read_of (1 ∷ 3 ∷ 0 ∷ 0 ∷ 0 ∷ 0 ∷ 7 ∷ 0 ∷ 0 ∷ []) ≡ Err (fault SHAPE 0)
 unfolding read_of wires_fault head_fault u16_at
 first_shape = refl
 
 -- an end field with a payload; a byte after the end field
-pub end_shape : read_of (1 ∷ 2 ∷ 0 ∷ 1 ∷ 0 ∷ 7 ∷ 1 ∷ 0 ∷ 0 ∷ []) ≡ Refused SHAPE 5
+pub end_shape : read_of (1 ∷ 2 ∷ 0 ∷ 1 ∷ 0 ∷ 7 ∷ 1 ∷ 0 ∷ 0 ∷ []) ≡ Err (fault SHAPE 5)
 unfolding read_of wires_fault read_from turn_of turn_by field_fault head_fault u16_at
 end_shape = refl
 
-pub after-shape : read_of (1 ∷ 2 ∷ 0 ∷ 1 ∷ 0 ∷ 7 ∷ 0 ∷ 0 ∷ 7 ∷ []) ≡ Refused SHAPE 8
+pub after-shape : read_of (1 ∷ 2 ∷ 0 ∷ 1 ∷ 0 ∷ 7 ∷ 0 ∷ 0 ∷ 7 ∷ []) ≡ Err (fault SHAPE 8)
 unfolding read_of wires_fault read_from turn_of turn_by field_fault head_fault u16_at
 after-shape = refl
 
 -- an And whose first operand takes the whole payload and names a wire that there is not
-pub first_wire : read_of (1 ∷ 2 ∷ 0 ∷ 1 ∷ 0 ∷ 2 ∷ 8 ∷ 0 ∷ 1 ∷ 0 ∷ 5 ∷ 0 ∷ 0 ∷ 0 ∷ 0 ∷ 0 ∷ 7 ∷ 0 ∷ 0 ∷ []) ≡ Refused WIRE 5
-unfolding read_of wires_fault read_from turn_of turn_by field_fault counts_after full_fault counted payload_fault destination_fault operands_fault operand_fault head_fault term_fault arity u16_at term_at terms_at operands_next_lem operands_terms operands_start
+pub first_wire : read_of (1 ∷ 2 ∷ 0 ∷ 1 ∷ 0 ∷ 2 ∷ 8 ∷ 0 ∷ 1 ∷ 0 ∷ 5 ∷ 0 ∷ 0 ∷ 0 ∷ 0 ∷ 0 ∷ 7 ∷ 0 ∷ 0 ∷ []) ≡ Err (fault WIRE 5)
+unfolding read_of wires_fault read_from turn_of turn_by field_fault counts_after full_fault counted payload_fault destination_fault operands_fault operand_fault head_fault term_fault arity u16_at term_at terms_at operands_next operands_terms operands_start
 first_wire = refl
 
 -- the same with a wire that there is: the second operand is missing
-pub second_shape : read_of (1 ∷ 2 ∷ 0 ∷ 1 ∷ 0 ∷ 2 ∷ 8 ∷ 0 ∷ 1 ∷ 0 ∷ 0 ∷ 0 ∷ 0 ∷ 0 ∷ 0 ∷ 0 ∷ 7 ∷ 0 ∷ 0 ∷ []) ≡ Refused SHAPE 5
-unfolding read_of wires_fault read_from turn_of turn_by field_fault counts_after full_fault counted payload_fault destination_fault operands_fault operand_fault head_fault term_fault arity u16_at term_at terms_at operands_next_lem operands_terms operands_start
+pub second_shape : read_of (1 ∷ 2 ∷ 0 ∷ 1 ∷ 0 ∷ 2 ∷ 8 ∷ 0 ∷ 1 ∷ 0 ∷ 0 ∷ 0 ∷ 0 ∷ 0 ∷ 0 ∷ 0 ∷ 7 ∷ 0 ∷ 0 ∷ []) ≡ Err (fault SHAPE 5)
+unfolding read_of wires_fault read_from turn_of turn_by field_fault counts_after full_fault counted payload_fault destination_fault operands_fault operand_fault head_fault term_fault arity u16_at term_at terms_at operands_next operands_terms operands_start
 second_shape = refl
 
 -- a Linear whose destination is a wire that there is not, and whose right side is too short: the destination comes first
-pub destination_wire : read_of (1 ∷ 2 ∷ 0 ∷ 1 ∷ 0 ∷ 6 ∷ 3 ∷ 0 ∷ 1 ∷ 0 ∷ 9 ∷ 7 ∷ 0 ∷ 0 ∷ []) ≡ Refused WIRE 5
-unfolding read_of wires_fault read_from turn_of turn_by field_fault counts_after full_fault counted payload_fault destination_fault operands_fault operand_fault head_fault term_fault arity u16_at term_at terms_at operands_next_lem operands_terms operands_start
+pub destination_wire : read_of (1 ∷ 2 ∷ 0 ∷ 1 ∷ 0 ∷ 6 ∷ 3 ∷ 0 ∷ 1 ∷ 0 ∷ 9 ∷ 7 ∷ 0 ∷ 0 ∷ []) ≡ Err (fault WIRE 5)
+unfolding read_of wires_fault read_from turn_of turn_by field_fault counts_after full_fault counted payload_fault destination_fault operands_fault operand_fault head_fault term_fault arity u16_at term_at terms_at operands_next operands_terms operands_start
 destination_wire = refl
 
 -- an outer shift of a half-word variant by 32
-pub half_shift : read_of (1 ∷ 2 ∷ 0 ∷ 1 ∷ 0 ∷ 6 ∷ 10 ∷ 0 ∷ 0 ∷ 0 ∷ 1 ∷ 0 ∷ 0 ∷ 0 ∷ 0 ∷ 0 ∷ 32 ∷ 1 ∷ 7 ∷ 0 ∷ 0 ∷ []) ≡ Refused SHIFT 5
-unfolding read_of wires_fault read_from turn_of turn_by field_fault counts_after full_fault counted payload_fault destination_fault operands_fault operand_fault head_fault term_fault arity u16_at term_at terms_at operands_next_lem operands_terms operands_start
+pub half_shift : read_of (1 ∷ 2 ∷ 0 ∷ 1 ∷ 0 ∷ 6 ∷ 10 ∷ 0 ∷ 0 ∷ 0 ∷ 1 ∷ 0 ∷ 0 ∷ 0 ∷ 0 ∷ 0 ∷ 32 ∷ 1 ∷ 7 ∷ 0 ∷ 0 ∷ []) ≡ Err (fault SHIFT 5)
+unfolding read_of wires_fault read_from turn_of turn_by field_fault counts_after full_fault counted payload_fault destination_fault operands_fault operand_fault head_fault term_fault arity u16_at term_at terms_at operands_next operands_terms operands_start
 half_shift = refl
 
 -- an operand with a byte left over
-pub left-shape : read_of (1 ∷ 2 ∷ 0 ∷ 1 ∷ 0 ∷ 5 ∷ 3 ∷ 0 ∷ 0 ∷ 0 ∷ 0 ∷ 7 ∷ 0 ∷ 0 ∷ []) ≡ Refused SHAPE 5
-unfolding read_of wires_fault read_from turn_of turn_by field_fault counts_after full_fault counted payload_fault destination_fault operands_fault operand_fault head_fault term_fault arity u16_at term_at terms_at operands_next_lem operands_terms operands_start
+pub left-shape : read_of (1 ∷ 2 ∷ 0 ∷ 1 ∷ 0 ∷ 5 ∷ 3 ∷ 0 ∷ 0 ∷ 0 ∷ 0 ∷ 7 ∷ 0 ∷ 0 ∷ []) ≡ Err (fault SHAPE 5)
+unfolding read_of wires_fault read_from turn_of turn_by field_fault counts_after full_fault counted payload_fault destination_fault operands_fault operand_fault head_fault term_fault arity u16_at term_at terms_at operands_next operands_terms operands_start
 left-shape = refl
 
 -- ---- 1,024 Zeros of an empty operand, and one more
@@ -155,7 +154,7 @@ module _ (s : List ℕ) (at : ℕ) (l : List ℕ) (d : drop at s ≡ 5 ∷ 2 ∷
   head_none = rw (tag_is, size_is, le-ltb (length s) (at + 3) (omega (arith, five_there)), le-ltb (length s) (at + 3 + 2) (omega (arith, five_there)))
 
   payload_none : payload_fault s 1 5 (at + 3 + 2) (at + 3) ≡ 0
-  unfolding payload_fault destination_fault operands_fault operand_fault operands_next_lem operands_start arity terms_at
+  unfolding payload_fault destination_fault operands_fault operand_fault operands_next operands_start arity terms_at
   payload_none = rw (count_is, le-ltb (at + 3 + 2) (at + 3 + 2) (omega arith), le-ltb (at + 3 + 2) (at + 3 + 2 + 0) (omega arith), le-ltb (at + 3 + 2 + 0) (at + 3 + 2) (omega arith))
 
   counts_are : (n : ℕ) → counts_after s (zeros_met_lem n) at ≡ zeros_met_lem (n + 1)
@@ -170,7 +169,7 @@ module _ (s : List ℕ) (at : ℕ) (l : List ℕ) (d : drop at s ≡ 5 ∷ 2 ∷
   unfolding full_fault
   full_none n h = rw (le-ltb 1024 (0 + (n + 1)) (omega arith))
 
-  turn_is : (n : ℕ) → n < 1024 → turn_of s 1 (zeros_met_lem n) at ≡ Go (at + 3 + 2) (zeros_met_lem (n + 1))
+  turn_is : (n : ℕ) → n < 1024 → turn_of s 1 (zeros_met_lem n) at ≡ Ok (Some (record { at = at + 3 + 2; counts = zeros_met_lem (n + 1) }))
   unfolding turn_of turn_by
   turn_is n h = rw (field_is n, full_none n h, tag_is, size_is, counts_are n)
 
@@ -185,7 +184,7 @@ zeros_met s (suc m) n k at r h d =
     let e : at + 3 + 2 + 5 * m ≡ at + 5 * suc m = omega arith in
     let q : k + suc m ≡ suc (k + m) = omega arith in
     ap (λ (j : ℕ). read_from s 1 j (zeros_met_lem n) at) q
-    ∙ ap (λ (x : Turn). follow x (read_from s 1 (k + m))) (turn_is s at (zeros_then m r) d n (omega arith))
+    ∙ ap (λ (x : Result (Option Place) Fault). follow 1 (zeros_met_lem n) (read_from s 1 (k + m)) x) (turn_is s at (zeros_then m r) d n (omega arith))
     ∙ zeros_met s m (n + 1) k (at + 3 + 2) r (omega arith) (rest_is s at (zeros_then m r) d)
     ∙ ap (λ (j : ℕ). read_from s 1 k (zeros_met_lem j) (at + 3 + 2 + 5 * m)) c
     ∙ ap (read_from s 1 k (zeros_met_lem (n + suc m))) e
@@ -193,7 +192,7 @@ zeros_met s (suc m) n k at r h d =
 abbrev many_then : List ℕ → List ℕ
 many_then r = 1 ∷ 2 ∷ 0 ∷ 1 ∷ 0 ∷ zeros_then 1024 r
 
-many_met : (r : List ℕ) (k : ℕ) (x : Read) → wires_fault (many_then r) ≡ 0 → length (many_then r) ≡ k + 1024 → read_from (many_then r) 1 k (zeros_met_lem 1024) 5125 ≡ x → read_of (many_then r) ≡ x
+many_met : (r : List ℕ) (k : ℕ) (x : Result FileRead Fault) → wires_fault (many_then r) ≡ 0 → length (many_then r) ≡ k + 1024 → read_from (many_then r) 1 k (zeros_met_lem 1024) 5125 ≡ x → read_of (many_then r) ≡ x
 unfolding read_of u16_at
 many_met r k x f l e =
     ap (λ (m : ℕ). read_by m (many_then r)) f
@@ -202,11 +201,11 @@ many_met r k x f l e =
     ∙ e
 
 -- a Zero more is FULL at its own field
-pub over_full : read_of (many_then (5 ∷ 2 ∷ 0 ∷ 0 ∷ 0 ∷ 7 ∷ 0 ∷ 0 ∷ [])) ≡ Refused FULL 5125
-unfolding wires_fault read_from turn_of turn_by field_fault counts_after full_fault counted payload_fault destination_fault operands_fault operand_fault head_fault term_fault arity u16_at term_at terms_at operands_next_lem operands_terms operands_start
-over_full = many_met (5 ∷ 2 ∷ 0 ∷ 0 ∷ 0 ∷ 7 ∷ 0 ∷ 0 ∷ []) 4109 (Refused FULL 5125) refl refl refl
+pub over_full : read_of (many_then (5 ∷ 2 ∷ 0 ∷ 0 ∷ 0 ∷ 7 ∷ 0 ∷ 0 ∷ [])) ≡ Err (fault FULL 5125)
+unfolding wires_fault read_from turn_of turn_by field_fault counts_after full_fault counted payload_fault destination_fault operands_fault operand_fault head_fault term_fault arity u16_at term_at terms_at operands_next operands_terms operands_start
+over_full = many_met (5 ∷ 2 ∷ 0 ∷ 0 ∷ 0 ∷ 7 ∷ 0 ∷ 0 ∷ []) 4109 (Err (fault FULL 5125)) refl refl refl
 
 -- with a byte left over it is SHAPE
-pub over-shape : read_of (many_then (5 ∷ 3 ∷ 0 ∷ 0 ∷ 0 ∷ 0 ∷ 7 ∷ 0 ∷ 0 ∷ [])) ≡ Refused SHAPE 5125
-unfolding wires_fault read_from turn_of turn_by field_fault counts_after full_fault counted payload_fault destination_fault operands_fault operand_fault head_fault term_fault arity u16_at term_at terms_at operands_next_lem operands_terms operands_start
-over-shape = many_met (5 ∷ 3 ∷ 0 ∷ 0 ∷ 0 ∷ 0 ∷ 7 ∷ 0 ∷ 0 ∷ []) 4110 (Refused SHAPE 5125) refl refl refl
+pub over-shape : read_of (many_then (5 ∷ 3 ∷ 0 ∷ 0 ∷ 0 ∷ 0 ∷ 7 ∷ 0 ∷ 0 ∷ [])) ≡ Err (fault SHAPE 5125)
+unfolding wires_fault read_from turn_of turn_by field_fault counts_after full_fault counted payload_fault destination_fault operands_fault operand_fault head_fault term_fault arity u16_at term_at terms_at operands_next operands_terms operands_start
+over-shape = many_met (5 ∷ 3 ∷ 0 ∷ 0 ∷ 0 ∷ 0 ∷ 7 ∷ 0 ∷ 0 ∷ []) 4110 (Err (fault SHAPE 5125)) refl refl refl

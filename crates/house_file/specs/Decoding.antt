@@ -4,7 +4,7 @@
 --   u16_at s at         the two bytes at an offset; past the end they read as 0, which no accepted file asks for
 --   term_at, terms_at    a term; n terms
 --   operand_next s at   the offset after the operand at `at`
---   operands_at s k at  k operands; operands_next_lem, the offset after them; operands_terms, how many terms they have
+--   operands_at s k at  k operands; operands_next, the offset after them; operands_terms, how many terms they have
 --   field_end s at      the offset after the field at `at`
 --   operands_start      where the operands of a field start: after the destination of a Linear
 --   entry_at s at       the field at `at`; entries_at s n at, n fields
@@ -32,9 +32,9 @@ unfoldable pub operands_at : List ℕ → ℕ → ℕ → List Operand
 operands_at s zero at = []
 operands_at s (suc k) at = terms_at s (u16_at s at) (at + 2) ∷ operands_at s k (operand_next s at)
 
-unfoldable pub operands_next_lem : List ℕ → ℕ → ℕ → ℕ
-operands_next_lem s zero at = at
-operands_next_lem s (suc k) at = operands_next_lem s k (operand_next s at)
+unfoldable pub operands_next : List ℕ → ℕ → ℕ → ℕ
+operands_next s zero at = at
+operands_next s (suc k) at = operands_next s k (operand_next s at)
 
 unfoldable pub operands_terms : List ℕ → ℕ → ℕ → ℕ
 operands_terms s zero at = 0

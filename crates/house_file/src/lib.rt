@@ -1,20 +1,13 @@
 // The house file: what its reader and its writer share.
 #![tactic(auto)]
 
-ghost use Rattle.std.specs.Prelude.{◌≡◌, ◌+◌, ◌^◌, ◌<◌, ◌≤◌, get_or};
+ghost use Rattle.std.specs.Prelude.{◌≡◌, ◌+◌, ◌^◌, ◌<◌, ◌≤◌, get_or, set};
 ghost use Rattle.house_file.specs.Format.{arity};
 ghost use Rattle.house_file.specs.Decoding.{u16_at, operands_start};
+ghost use Rattle.house_file.specs.Reading.{placed};
 
 use lower::Sizes;
-
-// The numbers of refusals that only files have.
-pub const CUT: u8 = 1;
-
-pub const TAG: u8 = 2;
-
-pub const ROOM: u8 = 12;
-
-pub const WIDE: u8 = 14;
+use refusal::Refusal;
 
 // The tag of a definition, and that of the end.
 pub const LINEAR: usize = 6;
@@ -22,7 +15,7 @@ pub const LINEAR: usize = 6;
 pub const END: usize = 7;
 
 // How many fields of each kind were met, and terms.
-#[derive(Clone, Copy)]
+#[derive(Clone, Copy, Debug, PartialEq, Eq)]
 pub struct Counts {
     pub ands: usize,
     pub imuls: usize,
@@ -32,18 +25,41 @@ pub struct Counts {
     pub terms: usize,
 }
 
-// What reading comes to: the counts of the system that was read, or a number and the offset of the field.
+// The counts of a system that was read.
 #[derive(Clone, Copy)]
-pub enum Read {
-    Refused { number: u8, at: usize },
-    Done { sizes: Sizes, terms: usize },
+pub struct FileRead {
+    pub sizes: Sizes,
+    pub terms: usize,
 }
 
-// One field: the answer, or on with the next.
-#[derive(Clone, Copy)]
-pub enum Turn {
-    Stop(Read),
-    Go { at: usize, counts: Counts },
+// Why a file is refused, and the offset of the field.
+#[derive(Clone, Copy, Debug, PartialEq, Eq)]
+pub struct FileFault {
+    pub refusal: Refusal,
+    pub at: usize,
+}
+
+// Where the reading goes on, and what was met before.
+#[derive(Clone, Copy, Debug, PartialEq, Eq)]
+pub struct Place {
+    pub at: usize,
+    pub counts: Counts,
+}
+
+// An answer of a part of the field at `at`: a refusal is told with that offset.
+pub fn at_field<T>(answer: Result<T, Refusal>, at: usize) -> Result<T, FileFault>
+    ensures { result ≡ placed answer at }
+{
+    answer.map_err(|refusal| FileFault { refusal, at })
+}
+
+// A write; past the end of the list it is dropped.
+pub fn put<T: Copy>(list: &mut [T], at: usize, value: T)
+    ensures { list.new ≡ set list.old at value }
+{
+    if at < list.len() {
+        list[at] = value;
+    }
 }
 
 // The byte at an offset, or 0 past the end.

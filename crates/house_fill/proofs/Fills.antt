@@ -3,8 +3,7 @@ use mathlib.Core.Path.{◌≡◌, refl, sym, ap, ◌∙◌}
 use mathlib.Core.Bool.{Bool, true, false}
 use mathlib.Core.List.{List, [], ◌∷◌, ◌++◌, map}
 use Prim.Native.Nat.{ℕ, zero, suc, ◌+◌, ◌-◌, ◌<◌}
-use native.Mathlib.Nat.{not-suc-le-zero, add-zero}
-use native.Mathlib.Numerals.{sub-one}
+use native.Mathlib.Nat.{add-zero}
 use native.Mathlib.Omega.{arith}
 use lib.ListN.{length, get_or, set, length-append, length-map}
 use lib.Seq.{sets}
@@ -31,13 +30,13 @@ module _ (s : List ℕ) where
   pub numbers_length : (n at : ℕ) → length (map term_number (terms_at s n at)) ≡ n
   numbers_length n at = length-map (terms_at s n at) term_number ∙ terms_length n at
 
-  pub sets_terms : (l : List ℕ) (q n at : ℕ) → 0 < n
-      → sets l q (map term_number (terms_at s n at)) ≡ sets (set l q (term_number (term_at s at))) (q + 1) (map term_number (terms_at s (n - 1) (at + 6)))
+  pub sets_terms : (l : List ℕ) (q n i at : ℕ) → i < n
+      → sets l q (map term_number (terms_at s (n - i) at)) ≡ sets (set l q (term_number (term_at s at))) (q + 1) (map term_number (terms_at s (n - (i + 1)) (at + 6)))
   unfolding terms_at
-  sets_terms l q zero at h = absurd (not-suc-le-zero h)
-  sets_terms l q (suc n) at h =
+  sets_terms l q n i at h =
+      let one_more : n - i ≡ suc (n - (i + 1)) = omega arith in
       let e : q + 1 ≡ suc q = omega arith in
-      rw (e, sub-one (suc n))
+      rw (one_more, e)
 
   pub sets_no_terms : (l : List ℕ) (q at : ℕ) → sets l q (map term_number (terms_at s 0 at)) ≡ l
   unfolding terms_at
@@ -57,14 +56,15 @@ module _ (s : List ℕ) where
       length-append (map term_number (terms_at s (u16_at s at) (at + 2))) (operands_laid (operands_at s k (operand_next s at)))
       ∙ rw (numbers_length s (u16_at s at) (at + 2), operands_length k (operand_next s at))
 
-  pub sets_operands : (l : List ℕ) (q k at : ℕ) → 0 < k
-      → sets l q (operands_laid (operands_at s k at))
-      ≡ sets (sets l q (map term_number (terms_at s (u16_at s at) (at + 2)))) (q + u16_at s at) (operands_laid (operands_at s (k - 1) (operand_next s at)))
+  pub sets_operands : (l : List ℕ) (q k i at : ℕ) → i < k
+      → sets l q (operands_laid (operands_at s (k - i) at))
+      ≡ sets (sets l q (map term_number (terms_at s (u16_at s at) (at + 2)))) (q + u16_at s at) (operands_laid (operands_at s (k - (i + 1)) (operand_next s at)))
   unfolding operands_at operands_laid
-  sets_operands l q zero at h = absurd (not-suc-le-zero h)
-  sets_operands l q (suc k) at h =
-      sets-append l q (map term_number (terms_at s (u16_at s at) (at + 2))) (operands_laid (operands_at s k (operand_next s at)))
-      ∙ rw (numbers_length s (u16_at s at) (at + 2), sub-one (suc k))
+  sets_operands l q k i at h =
+      let one_more : k - i ≡ suc (k - (i + 1)) = omega arith in
+      ap (λ (m : ℕ). sets l q (operands_laid (operands_at s m at))) one_more
+      ∙ sets-append l q (map term_number (terms_at s (u16_at s at) (at + 2))) (operands_laid (operands_at s (k - (i + 1)) (operand_next s at)))
+      ∙ rw (numbers_length s (u16_at s at) (at + 2))
 
   pub sets_no_operands : (l : List ℕ) (q at : ℕ) → sets l q (operands_laid (operands_at s 0 at)) ≡ l
   unfolding operands_at operands_laid
@@ -75,24 +75,23 @@ module _ (s : List ℕ) where
   views_length zero at t = refl
   views_length (suc k) at t = ap suc (views_length k (operand_next s at) (t + length (terms_at s (u16_at s at) (at + 2))))
 
-  pub sets_views : (l : List ℕ) (q k at t : ℕ) → 0 < k
-      → sets l q (numbers_from t (operands_at s k at))
-      ≡ sets (set l q (number_from t (u16_at s at))) (q + 1) (numbers_from (t + u16_at s at) (operands_at s (k - 1) (operand_next s at)))
+  pub sets_views : (l : List ℕ) (q k i at t : ℕ) → i < k
+      → sets l q (numbers_from t (operands_at s (k - i) at))
+      ≡ sets (set l q (number_from t (u16_at s at))) (q + 1) (numbers_from (t + u16_at s at) (operands_at s (k - (i + 1)) (operand_next s at)))
   unfolding operands_at numbers_from
-  sets_views l q zero at t h = absurd (not-suc-le-zero h)
-  sets_views l q (suc k) at t h =
+  sets_views l q k i at t h =
+      let one_more : k - i ≡ suc (k - (i + 1)) = omega arith in
       let e : q + 1 ≡ suc q = omega arith in
-      rw (e, sub-one (suc k), terms_length s (u16_at s at) (at + 2))
+      rw (one_more, e, terms_length s (u16_at s at) (at + 2))
 
   pub sets_no_views : (l : List ℕ) (q at t : ℕ) → sets l q (numbers_from t (operands_at s 0 at)) ≡ l
   unfolding operands_at numbers_from
   sets_no_views l q at t = refl
 
 module _ (s : List ℕ) (at : ℕ) where
-  pub sum_step : (n : ℕ) → 0 < n → operands_terms s n at ≡ u16_at s at + operands_terms s (n - 1) (operand_next s at)
+  pub sum_step : (n i : ℕ) → i < n → operands_terms s (n - i) at ≡ u16_at s at + operands_terms s (n - (i + 1)) (operand_next s at)
   unfolding operands_terms
-  sum_step zero h = absurd (not-suc-le-zero h)
-  sum_step (suc n) h = rw sub-one
+  sum_step n i h = let one_more : n - i ≡ suc (n - (i + 1)) = omega arith in rw one_more
 
   pub sum-none : operands_terms s 0 at ≡ 0
   unfolding operands_terms
@@ -106,27 +105,29 @@ abbrev pub arity_of : List ℕ → ℕ → ℕ
 arity_of s at = arity (get_or s at 0)
 
 module _ (s : List ℕ) where
-  pub sets_entries : (l : List ℕ) (q n at : ℕ) → 0 < n
-      → sets l q (terms_laid (entries_at s n at))
-      ≡ sets (sets l q (operands_laid (operands_at s (arity_of s at) (start_of s at)))) (q + operands_terms s (arity_of s at) (start_of s at)) (terms_laid (entries_at s (n - 1) (field_end s at)))
+  pub sets_entries : (l : List ℕ) (q n i at : ℕ) → i < n
+      → sets l q (terms_laid (entries_at s (n - i) at))
+      ≡ sets (sets l q (operands_laid (operands_at s (arity_of s at) (start_of s at)))) (q + operands_terms s (arity_of s at) (start_of s at)) (terms_laid (entries_at s (n - (i + 1)) (field_end s at)))
   unfolding entries_at entry_at terms_laid
-  sets_entries l q zero at h = absurd (not-suc-le-zero h)
-  sets_entries l q (suc n) at h =
-      sets-append l q (operands_laid (operands_at s (arity_of s at) (start_of s at))) (terms_laid (entries_at s n (field_end s at)))
-      ∙ rw (operands_length s (arity_of s at) (start_of s at), sub-one (suc n))
+  sets_entries l q n i at h =
+      let one_more : n - i ≡ suc (n - (i + 1)) = omega arith in
+      ap (λ (m : ℕ). sets l q (terms_laid (entries_at s m at))) one_more
+      ∙ sets-append l q (operands_laid (operands_at s (arity_of s at) (start_of s at))) (terms_laid (entries_at s (n - (i + 1)) (field_end s at)))
+      ∙ rw (operands_length s (arity_of s at) (start_of s at))
 
   pub sets_no_entries : (l : List ℕ) (q at : ℕ) → sets l q (terms_laid (entries_at s 0 at)) ≡ l
   unfolding entries_at terms_laid
   sets_no_entries l q at = refl
 
-  pub sets_list : (l : List ℕ) (q kind t n at : ℕ) → 0 < n
-      → sets l q (list_laid kind t (entries_at s n at))
-      ≡ sets (sets l q (shown kind t (entry_at s at))) (q + length (shown kind t (entry_at s at))) (list_laid kind (t + operands_terms s (arity_of s at) (start_of s at)) (entries_at s (n - 1) (field_end s at)))
+  pub sets_list : (l : List ℕ) (q kind t n i at : ℕ) → i < n
+      → sets l q (list_laid kind t (entries_at s (n - i) at))
+      ≡ sets (sets l q (shown kind t (entry_at s at))) (q + length (shown kind t (entry_at s at))) (list_laid kind (t + operands_terms s (arity_of s at) (start_of s at)) (entries_at s (n - (i + 1)) (field_end s at)))
   unfolding entries_at entry_at list_laid
-  sets_list l q kind t zero at h = absurd (not-suc-le-zero h)
-  sets_list l q kind t (suc n) at h =
-      sets-append l q (shown kind t (entry_at s at)) _
-      ∙ rw (count_operands s (arity_of s at) (start_of s at), sub-one (suc n))
+  sets_list l q kind t n i at h =
+      let one_more : n - i ≡ suc (n - (i + 1)) = omega arith in
+      ap (λ (m : ℕ). sets l q (list_laid kind t (entries_at s m at))) one_more
+      ∙ sets-append l q (shown kind t (entry_at s at)) _
+      ∙ rw (count_operands s (arity_of s at) (start_of s at))
 
   pub sets_no_list : (l : List ℕ) (q kind t at : ℕ) → sets l q (list_laid kind t (entries_at s 0 at)) ≡ l
   unfolding entries_at list_laid
@@ -141,14 +142,14 @@ module _ (s : List ℕ) where
       go true e = simp e
       go false e = simp e
 
-  pub sets-destinations : (l : List ℕ) (q n at : ℕ) → 0 < n
-      → sets l q (destinations_laid (entries_at s n at))
-      ≡ sets (sets l q (destinations_laid (entries_at s 1 at))) (q + length (destinations_laid (entries_at s 1 at))) (destinations_laid (entries_at s (n - 1) (field_end s at)))
-  sets-destinations l q zero at h = absurd (not-suc-le-zero h)
-  sets-destinations l q (suc n) at h =
-      ap (sets l q) (destinations-by n at)
+  pub sets-destinations : (l : List ℕ) (q n i at : ℕ) → i < n
+      → sets l q (destinations_laid (entries_at s (n - i) at))
+      ≡ sets (sets l q (destinations_laid (entries_at s 1 at))) (q + length (destinations_laid (entries_at s 1 at))) (destinations_laid (entries_at s (n - (i + 1)) (field_end s at)))
+  sets-destinations l q n i at h =
+      let one_more : n - i ≡ suc (n - (i + 1)) = omega arith in
+      ap (λ (m : ℕ). sets l q (destinations_laid (entries_at s m at))) one_more
+      ∙ ap (sets l q) (destinations-by (n - (i + 1)) at)
       ∙ sets-append l q (destinations_laid (entries_at s 1 at)) _
-      ∙ rw (sub-one (suc n))
 
   pub sets_no_destinations : (l : List ℕ) (q at : ℕ) → sets l q (destinations_laid (entries_at s 0 at)) ≡ l
   unfolding entries_at destinations_laid

@@ -2,31 +2,14 @@
 // the first pass has refused it if it is not. A number past a store's end is dropped.
 #![tactic(auto)]
 
-ghost use Rattle.std.specs.Prelude.{◌≡◌, ◌+◌, ◌*◌, ◌^◌, ◌<◌, ◌≤◌, length, set, map};
+ghost use Rattle.std.specs.Prelude.{◌≡◌, ◌+◌, ◌*◌, ◌^◌, ◌<◌, ◌≤◌, length, map};
 ghost use Rattle.std.proofs.lemmas.List.Edits.{sets};
 ghost use Rattle.operand.specs.Numbers.{term_number};
 ghost use Rattle.house_file.specs.Decoding.{term_at, terms_at, operands_at, operands_terms, entry_at, entries_at};
 ghost use Rattle.house_fill.specs.Layout.{operands_laid, terms_laid, number_from, numbers_from, shown, list_laid, destinations_laid, Filled};
 
-use house_file::{arity_of, byte, num, start_of};
+use house_file::{arity_of, byte, num, put, start_of};
 use operand::{Wire, WireOperand};
-
-fn put(store: &mut [u64], at: usize, v: u64)
-    ensures { store.new ≡ set store.old at v }
-{
-    if at < store.len() {
-        store[at] = v;
-    }
-}
-
-fn put_wire(store: &mut [u16], at: usize, v: usize)
-    requires { v < 65536 }
-    ensures { store.new ≡ set store.old at v }
-{
-    if at < store.len() {
-        store[at] = v as u16;
-    }
-}
 
 fn term_at(s: &[u8], at: usize) -> u64
     requires { at + 6 < 2 ^ 63 }
@@ -43,14 +26,12 @@ fn put_terms(s: &[u8], n: usize, at: usize, store: &mut [u64], p: usize)
     requires { (at + 6 * n < 2 ^ 62) × (p + n < 2 ^ 62) }
     ensures { store.new ≡ sets store.old p (map term_number (terms_at s.now n at)) }
 {
-    let mut left = n;
     let mut a = at;
     let mut q = p;
-    while 0 < left {
+    for _ in 0..n {
         put(store, q, term_at(s, a));
-        a = a + 6;
-        q = q + 1;
-        left = left - 1;
+        a += 6;
+        q += 1;
     }
 }
 
@@ -59,15 +40,13 @@ fn put_operands(s: &[u8], k: usize, at: usize, store: &mut [u64], p: usize) -> u
     requires { (at + 400000 * k < 2 ^ 62) × (p + 65536 * k < 2 ^ 62) }
     ensures { (result ≡ p + operands_terms s.now k at) × ((result ≤ p + 65536 * k) × (store.new ≡ sets store.old p (operands_laid (operands_at s.now k at)))) }
 {
-    let mut left = k;
     let mut a = at;
     let mut q = p;
-    while 0 < left {
+    for _ in 0..k {
         let n = num(s, a);
         put_terms(s, n, a + 2, store, q);
         a = a + 2 + 6 * n;
-        q = q + n;
-        left = left - 1;
+        q += n;
     }
     q
 }
@@ -77,16 +56,14 @@ fn put_all_terms(s: &[u8], n: usize, store: &mut [u64])
     requires { n < 4096 }
     ensures { store.new ≡ sets store.old 0 (terms_laid (entries_at s.now n 5)) }
 {
-    let mut left = n;
     let mut a = 5;
     let mut q = 0;
-    while 0 < left {
+    for _ in 0..n {
         let tag = byte(s, a);
         let k = arity_of(tag);
         let b = start_of(tag, a + 3);
         q = put_operands(s, k, b, store, q);
         a = a + 3 + num(s, a + 1);
-        left = left - 1;
     }
 }
 
@@ -107,17 +84,15 @@ fn put_numbers(s: &[u8], k: usize, at: usize, t: usize, store: &mut [u64], p: us
     requires { (at + 400000 * k < 2 ^ 62) × ((p + k < 2 ^ 62) × (t + 65536 * k < 2147483648)) }
     ensures { store.new ≡ sets store.old p (numbers_from t (operands_at s.now k at)) }
 {
-    let mut left = k;
     let mut a = at;
     let mut u = t;
     let mut q = p;
-    while 0 < left {
+    for _ in 0..k {
         let n = num(s, a);
         put(store, q, operand_number(u, n));
         a = a + 2 + 6 * n;
-        u = u + n;
-        q = q + 1;
-        left = left - 1;
+        u += n;
+        q += 1;
     }
 }
 
@@ -126,14 +101,12 @@ fn sum_terms(s: &[u8], k: usize, at: usize) -> usize
     requires { at + 400000 * k < 2 ^ 62 }
     ensures { (result ≡ operands_terms s.now k at) × (result ≤ 65536 * k) }
 {
-    let mut left = k;
     let mut a = at;
     let mut sum = 0;
-    while 0 < left {
+    for _ in 0..k {
         let n = num(s, a);
-        sum = sum + n;
+        sum += n;
         a = a + 2 + 6 * n;
-        left = left - 1;
     }
     sum
 }
@@ -158,18 +131,16 @@ fn put_list(s: &[u8], n: usize, kind: usize, store: &mut [u64])
     requires { n < 4096 }
     ensures { store.new ≡ sets store.old 0 (list_laid kind 0 (entries_at s.now n 5)) }
 {
-    let mut left = n;
     let mut a = 5;
     let mut t = 0;
     let mut q = 0;
-    while 0 < left {
+    for _ in 0..n {
         let tag = byte(s, a);
         let k = arity_of(tag);
         let b = start_of(tag, a + 3);
         q = put_entry(s, kind, a, t, store, q);
-        t = t + sum_terms(s, k, b);
+        t += sum_terms(s, k, b);
         a = a + 3 + num(s, a + 1);
-        left = left - 1;
     }
 }
 
@@ -182,7 +153,7 @@ fn put_destination(s: &[u8], at: usize, store: &mut [u16], p: usize) -> usize
     if tag != house_file::LINEAR {
         return p;
     }
-    put_wire(store, p, num(s, at + 3));
+    put(store, p, num(s, at + 3) as u16);
     p + 1
 }
 
@@ -191,17 +162,16 @@ fn put_destinations(s: &[u8], n: usize, store: &mut [u16])
     requires { n < 4096 }
     ensures { store.new ≡ sets store.old 0 (destinations_laid (entries_at s.now n 5)) }
 {
-    let mut left = n;
     let mut a = 5;
     let mut q = 0;
-    while 0 < left {
+    for _ in 0..n {
         q = put_destination(s, a, store, q);
         a = a + 3 + num(s, a + 1);
-        left = left - 1;
     }
 }
 
 // The `n` fields after the first, laid out in the stores.
+// Kept: a parameter for each store, as C lends them.
 pub fn fill(
     s: &[u8],
     n: usize,

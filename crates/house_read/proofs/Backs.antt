@@ -13,12 +13,14 @@ use Rattle.lower.specs.declared.Sizes.{Sizes}
 use Rattle.lower.specs.Lists.{All}
 use Rattle.lower.specs.Stores.{Stores, stores, system_of}
 use Rattle.lower.proofs.Laws.{all_imp}
+use Rattle.std.specs.Prelude.{Result, Ok, Err}
+use Rattle.house_file.specs.declared.FileRead.{FileRead}
+use Rattle.house_file.specs.declared.FileFault.{FileFault}
 use Rattle.house_file.specs.Format.{Entry, LINEAR, of_kind, definition_from, system_from, TermOk, EntryOk}
 use Rattle.house_file.specs.Decoding.{entries_at}
-use Rattle.house_file.specs.Reading.{ROOM, read_of, total}
-use Rattle.house_file.specs.declared.Read.{Read}
-use Rattle.house_file.specs.declared.Read.TheVariants.{Refused, Done}
+use Rattle.house_file.specs.Reading.{ROOM, read_of, total, Fault, fault, file_read, by_number}
 use Rattle.house_fill.specs.Layout.{Filled, terms_in_all}
+use Rattle.house_file.proofs.Faults.{read_is}
 use Rattle.house_read.specs.Answer.{room_of, with_room, ReadIs}
 use Rattle.house_read.proofs.Tallies.{terms_of_lem}
 use Rattle.house_read.proofs.Exact.{accepted_entries}
@@ -59,18 +61,16 @@ module _ (t a i b o d r : ℕ) where
         rhss_fit = leb-true _ _ e₆.1;
       }
 
-  room_by : (b : Bool) (x : Read) (len : ℕ) (z : Sizes) (n : ℕ) → cond b x (Refused ROOM len) ≡ Done z n → (x ≡ Done z n) × (b ≡ true)
-  room_by true x len z n e = (e, refl)
-  room_by false x len z n e = (cc, cc)
+  room_by : (b : Bool) (x y : FileRead) (len : ℕ) → cond b (Ok x) (Err (fault ROOM len)) ≡ Ok y → (x ≡ y) × (b ≡ true)
+  room_by true x y len e = (read_is x y e, refl)
+  room_by false x y len e = (cc, cc)
 
-  pub answered : (x : Read) (len : ℕ) (z : Sizes) (n : ℕ) → with_room x len t a i b o d r ≡ Done z n → (x ≡ Done z n) × Roomy z n t a i b o d r
+  pub answered : (x : Result FileRead Fault) (len : ℕ) (z : Sizes) (n : ℕ) → with_room x len t a i b o d r ≡ Ok (file_read z n) → (x ≡ Ok (file_read z n)) × Roomy z n t a i b o d r
   unfolding with_room
-  answered (Refused k at) len z n e = absurd (let h : ◌≡◌ {A = ℕ} 0 1 = cc in omega arith)
-  answered (Done y m) len z n e =
-      let g = room_by (room_of y m t a i b o d r) (Done y m) len z n e in
-      let y_is : y ≡ z = cc in
-      let m_is : m ≡ n = cc in
-      (g.0, roomy z n (ap (λ (x : Sizes). room_of x n t a i b o d r) (sym y_is) ∙ ap (λ (k : ℕ). room_of y k t a i b o d r) (sym m_is) ∙ g.1))
+  answered (Err f) len z n e = absurd (let h : ◌≡◌ {A = ℕ} 0 1 = cc in omega arith)
+  answered (Ok y) len z n e =
+      let g = room_by (room_of y.sizes y.terms t a i b o d r) y (file_read z n) len e in
+      (ap Ok g.0, roomy z n (ap (λ (x : FileRead). room_of x.sizes x.terms t a i b o d r) (sym g.0) ∙ g.1))
 
 -- ---- sound entries can be laid out
 
@@ -84,14 +84,14 @@ entry-laid w m e k =
       count = k.count_ok;
     }
 
-module _ {s terms ands imuls bmuls zeros dsts rhss : List ℕ} {r : Read} {terms' ands' imuls' bmuls' zeros' dsts' rhss' : List ℕ} where
-  pub read_back : (z : Sizes) (n : ℕ) → ReadIs s terms ands imuls bmuls zeros dsts rhss r terms' ands' imuls' bmuls' zeros' dsts' rhss' → r ≡ Done z n
+module _ {s terms ands imuls bmuls zeros dsts rhss : List ℕ} {r : Result FileRead FileFault} {terms' ands' imuls' bmuls' zeros' dsts' rhss' : List ℕ} where
+  pub read_back : (z : Sizes) (n : ℕ) → ReadIs s terms ands imuls bmuls zeros dsts rhss r terms' ands' imuls' bmuls' zeros' dsts' rhss' → r ≡ Ok (file_read z n)
       → system_of z (stores terms' [] ands' imuls' bmuls' zeros' dsts' rhss') ≡ system_from z.wires (entries_at s (total z) 5)
   unfolding system_from
   read_back z n is e =
       let es = entries_at s (total z) 5 in
       let w = z.wires in
-      let g = answered (length terms) (length ands) (length imuls) (length bmuls) (length zeros) (length dsts) (length rhss) (read_of s) (length s) z n (sym is.answer ∙ e) in
+      let g = answered (length terms) (length ands) (length imuls) (length bmuls) (length zeros) (length dsts) (length rhss) (read_of s) (length s) z n (sym is.answer ∙ ap by_number e) in
       let m = g.1 in
       let k = accepted_entries s z n g.0 in
       let f : Filled es terms ands imuls bmuls zeros dsts rhss terms' ands' imuls' bmuls' zeros' dsts' rhss' = rw e at is.filled in

@@ -16,11 +16,11 @@ use Rattle.lower.specs.Model.{terms_of}
 use Rattle.lower.specs.Accepted.{Limits, MAX_TERMS}
 use Rattle.lower.specs.Faults.{SHAPE, WIRE, or_else, unless, first_fault, term_fault}
 use Rattle.lower.proofs.Firsts.{else_first, else_second, unless_holds}
+use Rattle.std.specs.Prelude.{Ok}
 use Rattle.house_file.specs.Format.{le16, terms_bytes, operands_bytes, Entry, LINEAR, payload_bytes, file_bytes, of_kind, definition_from, system_from, sizes_in, arity, TermOk, EntryOk, Sound}
-use Rattle.house_file.specs.Decoding.{u16_at, term_at, terms_at, operand_next, operands_at, operands_next_lem, field_end, operands_start, entry_at, entries_at}
-use Rattle.house_file.specs.Reading.{END, operand_fault, operands_fault, destination_fault, payload_fault, counted, Small, counts_after, none, sizes_of, total, read_of}
+use Rattle.house_file.specs.Decoding.{u16_at, term_at, terms_at, operand_next, operands_at, operands_next, field_end, operands_start, entry_at, entries_at}
+use Rattle.house_file.specs.Reading.{END, operand_fault, operands_fault, destination_fault, payload_fault, counted, Small, counts_after, none, sizes_of, total, read_of, file_read}
 use Rattle.house_file.specs.declared.Counts.{Counts}
-use Rattle.house_file.specs.declared.Read.TheVariants.{Done}
 use Rattle.house_file.proofs.Sizes.{terms_size}
 use Rattle.house_fill.specs.Layout.{terms_count}
 use Rattle.house_fill.proofs.Fills.{terms_length, count_operands}
@@ -65,8 +65,8 @@ module _ (s : List ℕ) where
       (fault_terms w (terms_at s (u16_at s at) (at + 2)) b.1, ltb-false _ _ b.0)
 
   operands_fault_lem : (w end k at : ℕ) → at ≤ end → operands_fault s w end k at ≡ 0
-      → All (λ (o : Operand). All (TermOk w) o) (operands_at s k at) × (operands_next_lem s k at ≤ end)
-  unfolding operands_fault operands_at operands_next_lem
+      → All (λ (o : Operand). All (TermOk w) o) (operands_at s k at) × (operands_next s k at ≤ end)
+  unfolding operands_fault operands_at operands_next
   operands_fault_lem w end zero at h e = (done, h)
   operands_fault_lem w end (suc k) at h e =
       let a = operand_fault_lem w end at (else_first (operand_fault s w end at) (operands_fault s w end k (operand_next s at)) e) in
@@ -78,8 +78,8 @@ module _ (s : List ℕ) where
   operands_length zero at = refl
   operands_length (suc k) at = ap suc (operands_length k (operand_next s at))
 
-  next_grows : (k at : ℕ) → at ≤ operands_next_lem s k at
-  unfolding operands_next_lem
+  next_grows : (k at : ℕ) → at ≤ operands_next s k at
+  unfolding operands_next
   next_grows zero at = omega arith
   next_grows (suc k) at = omega (arith, next_grows k (operand_next s at))
 
@@ -87,7 +87,7 @@ module _ (s : List ℕ) where
     pub dst_ok : cond (eqb tag LINEAR) (u16_at s at) 0 < w
     pub starts : operands_start tag at ≤ end
     pub operands_ok : All (λ (o : Operand). All (TermOk w) o) (operands_at s (arity tag) (operands_start tag at))
-    pub ends : operands_next_lem s (arity tag) (operands_start tag at) ≡ end
+    pub ends : operands_next s (arity tag) (operands_start tag at) ≡ end
 
   dest_by : (b : Bool) (w end at : ℕ) → 0 < w → at ≤ end → cond b (cond (ltb end (at + 2)) SHAPE (cond (ltb (u16_at s at) w) 0 WIRE)) 0 ≡ 0
       → (cond b (u16_at s at) 0 < w) × (cond b (at + 2) at ≤ end)
@@ -104,13 +104,13 @@ module _ (s : List ℕ) where
   unfolding payload_fault destination_fault operands_start
   payload_fault_lem w tag end at z h e =
       let q = operands_start tag at in
-      let last : ℕ = cond (ltb (operands_next_lem s (arity tag) q) end) SHAPE 0 in
+      let last : ℕ = cond (ltb (operands_next s (arity tag) q) end) SHAPE 0 in
       let rest : ℕ = or_else (operands_fault s w end (arity tag) q) last in
       let a = dest_by (eqb tag LINEAR) w end at z h (else_first (destination_fault s w tag end at) rest e) in
       let r = else_second (destination_fault s w tag end at) rest e in
       let b = operands_fault_lem w end (arity tag) q a.1 (else_first (operands_fault s w end (arity tag) q) last r) in
-      let c = no_cond (ltb (operands_next_lem s (arity tag) q) end) 2 0 (else_second (operands_fault s w end (arity tag) q) last r) in
-      let u : end ≤ operands_next_lem s (arity tag) q = ltb-false _ _ c.0 in
+      let c = no_cond (ltb (operands_next s (arity tag) q) end) 2 0 (else_second (operands_fault s w end (arity tag) q) last r) in
+      let u : end ≤ operands_next s (arity tag) q = ltb-false _ _ c.0 in
       record { dst_ok = a.0; starts = a.1; operands_ok = b.0; ends = omega (arith, b.1, u) }
 
 -- ---- an entry with no fault is sound
@@ -166,10 +166,10 @@ module _ (s : List ℕ) (bytes : (i : ℕ) → get_or s i 0 < 256) where
 
   record OperandsHave (k at : ℕ) : Type 0 where
     have : Has s at (operands_bytes (operands_at s k at))
-    size : at + length (operands_bytes (operands_at s k at)) ≡ operands_next_lem s k at
+    size : at + length (operands_bytes (operands_at s k at)) ≡ operands_next s k at
 
-  operands_bytes_lem : (k at : ℕ) → operands_next_lem s k at ≤ length s → OperandsHave k at
-  unfolding operands_bytes operands_at operands_next_lem Has
+  operands_bytes_lem : (k at : ℕ) → operands_next s k at ≤ length s → OperandsHave k at
+  unfolding operands_bytes operands_at operands_next Has
   operands_bytes_lem zero at h = record { have = omega (arith, h); size = add-zero at }
   operands_bytes_lem (suc k) at h =
       let n = u16_at s at in
@@ -334,7 +334,7 @@ entries_be s z t w es a b k n m =
       terms_are = rw (a, b) m;
     }
 
-module _ (s : List ℕ) (z : Sizes) (t : ℕ) (e : read_of s ≡ Done z t) where
+module _ (s : List ℕ) (z : Sizes) (t : ℕ) (e : read_of s ≡ Ok (file_read z t)) where
   wires_be : z.wires ≡ u16_at s 3
   wires_be = ap (λ (x : Sizes). x.wires) (read_whole s z t e).run.sizes_are
 

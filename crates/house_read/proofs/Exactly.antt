@@ -7,10 +7,10 @@ use lib.ListN.{length}
 use Rattle.lower.specs.declared.Sizes.{Sizes}
 use Rattle.lower.specs.Lists.{All}
 use Rattle.lower.specs.Model.{terms_of}
+use Rattle.std.specs.Prelude.{Ok}
 use Rattle.house_file.specs.Format.{InFormat, system_from, sizes_in}
 use Rattle.house_file.specs.Decoding.{entries_at}
-use Rattle.house_file.specs.Reading.{read_of, total}
-use Rattle.house_file.specs.declared.Read.TheVariants.{Done}
+use Rattle.house_file.specs.Reading.{read_of, total, file_read}
 use Rattle.house_read.proofs.Tallies.{accepts}
 use Rattle.house_read.proofs.Exact.{accepted_entries, accepted_file}
 
@@ -18,7 +18,7 @@ use Rattle.house_read.proofs.Exact.{accepted_entries, accepted_file}
 pub record Accepts (s : List ℕ) : Type 0 where
   pub sizes : Sizes
   pub terms : ℕ
-  pub is : read_of s ≡ Done sizes terms
+  pub is : read_of s ≡ Ok (file_read sizes terms)
 
 pub exactly : (s : List ℕ) → All (λ (b : ℕ). b < 256) s → Accepts s ↔ InFormat s
 exactly s b = (

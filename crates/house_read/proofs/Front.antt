@@ -13,13 +13,14 @@ use borrow.Author.Tests.{ltb-true, ltb-false, le-ltb}
 use Rattle.lower.specs.declared.Sizes.{Sizes}
 use Rattle.lower.specs.Faults.{SHAPE, WIRE, or_else, first_fault, term_fault}
 use Rattle.lower.proofs.Firsts.{else_first, else_second}
+use Rattle.std.specs.Prelude.{Result, Ok, Err}
+use Rattle.house_file.specs.declared.FileRead.{FileRead}
+use Rattle.house_file.specs.declared.FileFault.{FileFault}
 use Rattle.house_file.specs.Format.{Entry, LINEAR, arity}
-use Rattle.house_file.specs.Decoding.{u16_at, term_at, terms_at, operand_next, operands_next_lem, operands_terms, field_end, operands_start}
-use Rattle.house_file.specs.Reading.{END, head_fault, operand_fault, operands_fault, destination_fault, payload_fault, counted, full_fault, counts_after, field_fault, wires_fault, read_of, entries_read}
+use Rattle.house_file.specs.Decoding.{u16_at, term_at, terms_at, operand_next, operands_next, operands_terms, field_end, operands_start}
+use Rattle.house_file.specs.Reading.{END, head_fault, operand_fault, operands_fault, destination_fault, payload_fault, counted, full_fault, counts_after, field_fault, wires_fault, read_of, entries_read, Fault, fault, file_read, by_number}
 use Rattle.house_file.specs.First.{FaultFrom, here, after, later, FirstFault, in_the_first, in_another}
 use Rattle.house_file.specs.declared.Counts.{Counts}
-use Rattle.house_file.specs.declared.Read.{Read}
-use Rattle.house_file.specs.declared.Read.TheVariants.{Refused, Done}
 use Rattle.house_fill.specs.Layout.{Filled}
 use Rattle.house_read.specs.Answer.{with_room, ReadIs}
 use Rattle.house_read.proofs.Answers.{room_refused, answer_tells}
@@ -79,8 +80,8 @@ module _ (s t : List ℕ) (limit : ℕ) (same : (i : ℕ) → i < limit → get_
 
   -- where the operands have no fault, they end at the same offset and have as many terms
   after_same : (w end k at : ℕ) → end ≤ limit → operands_fault s w end k at ≡ 0
-      → (operands_next_lem t k at ≡ operands_next_lem s k at) × (operands_terms t k at ≡ operands_terms s k at)
-  unfolding operands_fault operands_next_lem operands_terms
+      → (operands_next t k at ≡ operands_next s k at) × (operands_terms t k at ≡ operands_terms s k at)
+  unfolding operands_fault operands_next operands_terms
   after_same w end zero at l e = (refl, refl)
   after_same w end (suc k) at l e =
       let rest : ℕ = operands_fault s w end k (operand_next s at) in
@@ -104,7 +105,7 @@ module _ (s t : List ℕ) (limit : ℕ) (same : (i : ℕ) → i < limit → get_
   payload_same w tag end at l =
       let q = operands_start tag at in
       let k = arity tag in
-      let left : List ℕ → ℕ = λ x. cond (ltb (operands_next_lem x k q) end) SHAPE 0 in
+      let left : List ℕ → ℕ = λ x. cond (ltb (operands_next x k q) end) SHAPE 0 in
       else_same (destination_fault t w tag end at) (destination_fault s w tag end at) (or_else (operands_fault t w end k q) (left t))
       (or_else (operands_fault s w end k q) (left s)) (destination_same w tag end at l)
       (λ _. else_same (operands_fault t w end k q) (operands_fault s w end k q) (left t) (left s) (operands_same w end k q l)
@@ -117,7 +118,7 @@ module _ (s t : List ℕ) (limit : ℕ) (same : (i : ℕ) → i < limit → get_
       let tag = get_or s at 0 in
       let q = operands_start tag (at + 3) in
       let o : ℕ = operands_fault s w (field_end s at) (arity tag) q in
-      let left : ℕ = cond (ltb (operands_next_lem s (arity tag) q) (field_end s at)) SHAPE 0 in
+      let left : ℕ = cond (ltb (operands_next s (arity tag) q) (field_end s at)) SHAPE 0 in
       let r : or_else o left ≡ 0 = else_second (destination_fault s w tag (field_end s at) (at + 3)) (or_else o left) e in
       rw (same at h) (ap (counted c tag) (after_same w (field_end s at) (arity tag) q l (else_first o left r)).1)
 
@@ -183,8 +184,12 @@ module _ (s t : List ℕ) (limit : ℕ) (same : (i : ℕ) → i < limit → get_
 
 -- ---- what is refused alike is answered alike
 
-module _ (s u terms ands imuls bmuls zeros dsts rhss : List ℕ) (r : Read) (terms' ands' imuls' bmuls' zeros' dsts' rhss' : List ℕ) (n j : ℕ) where
-  refused_alike : read_of s ≡ Refused n j → read_of u ≡ Refused n j → ReadIs s terms ands imuls bmuls zeros dsts rhss r terms' ands' imuls' bmuls' zeros' dsts' rhss'
+no_entries : (s : List ℕ) (r : Result FileRead FileFault) {f : Fault} → by_number r ≡ Err f → entries_read s r ≡ []
+no_entries s (Ok x) e = cc
+no_entries s (Err g) e = refl
+
+module _ (s u terms ands imuls bmuls zeros dsts rhss : List ℕ) (r : Result FileRead FileFault) (terms' ands' imuls' bmuls' zeros' dsts' rhss' : List ℕ) (n j : ℕ) where
+  refused_alike : read_of s ≡ Err (fault n j) → read_of u ≡ Err (fault n j) → ReadIs s terms ands imuls bmuls zeros dsts rhss r terms' ands' imuls' bmuls' zeros' dsts' rhss'
       → ReadIs u terms ands imuls bmuls zeros dsts rhss r terms' ands' imuls' bmuls' zeros' dsts' rhss'
   refused_alike e f k =
       let t = length terms in
@@ -194,12 +199,12 @@ module _ (s u terms ands imuls bmuls zeros dsts rhss : List ℕ) (r : Read) (ter
       let o = length zeros in
       let d = length dsts in
       let h = length rhss in
-      let g : r ≡ Refused n j = k.answer ∙ sym (room_refused (length s) t a i b o d h e) in
-      let is : r ≡ with_room (read_of u) (length u) t a i b o d h = g ∙ room_refused (length u) t a i b o d h f in
-      let es : entries_read s r ≡ entries_read u r = ap (entries_read s) g ∙ sym (ap (entries_read u) g) in
+      let g : by_number r ≡ Err (fault n j) = k.answer ∙ sym (room_refused (length s) t a i b o d h e) in
+      let is : by_number r ≡ with_room (read_of u) (length u) t a i b o d h = g ∙ room_refused (length u) t a i b o d h f in
+      let es : entries_read s r ≡ entries_read u r = no_entries s r g ∙ sym (no_entries u r g) in
       record {
         answer = is;
-        tells = answer_tells (length u) t a i b o d h (read_of u) is;
+        tells = answer_tells (length u) t a i b o d h r (read_of u) is;
         filled = subst (λ (l : List Entry). Filled l terms ands imuls bmuls zeros dsts rhss terms' ands' imuls' bmuls' zeros' dsts' rhss') es k.filled;
       }
 
@@ -214,10 +219,10 @@ front_bytes (suc n) (x ∷ s) b (suc i) = front_bytes n s (λ j. b (suc j)) i
 
 -- only the front need be bytes, which is all that a reader of it knows
 module _ (limit : ℕ) (s : List ℕ) (most : 149511 ≤ limit) (bytes : (i : ℕ) → get_or (take limit s) i 0 < 256) where
-  front_done : (z : Sizes) (n : ℕ) → read_of s ≡ Done z n → take limit s ≡ s
+  front_done : (z : Sizes) (n : ℕ) → read_of s ≡ Ok (file_read z n) → take limit s ≡ s
   front_done z n e = take_all limit s (omega (arith, accepted_short s z n e))
 
-  front_by : (n j : ℕ) (b : Bool) → ltb limit (length s) ≡ b → read_of s ≡ Refused n j → read_of (take limit s) ≡ Refused n j
+  front_by : (n j : ℕ) (b : Bool) → ltb limit (length s) ≡ b → read_of s ≡ Err (fault n j) → read_of (take limit s) ≡ Err (fault n j)
   front_by n j false h e = ap read_of (take_all limit s (ltb-false _ _ h)) ∙ e
   front_by n j true h e =
       let l : limit < length s = ltb-true _ _ h in
@@ -225,24 +230,26 @@ module _ (limit : ℕ) (s : List ℕ) (most : 149511 ≤ limit) (bytes : (i : �
       let long : limit ≤ length (take limit s) = omega (arith, length-take-le limit s (omega arith)) in
       (refusal_right (take limit s) n j).1 (first_front s (take limit s) limit same (λ i k. rw (same i k) at (bytes i)) (omega arith) long most ((refusal_right s n j).0 e))
 
-  front_of : (x : Read) → read_of s ≡ x → read_of (take limit s) ≡ x
-  front_of (Refused n j) e = front_by n j (ltb limit (length s)) refl e
-  front_of (Done z n) e = ap read_of (front_done z n e) ∙ e
+  front_of : (x : Result FileRead Fault) → read_of s ≡ x → read_of (take limit s) ≡ x
+  front_of (Err f) e = front_by f.number f.at (ltb limit (length s)) refl e
+  front_of (Ok x) e = ap read_of (front_done x.sizes x.terms e) ∙ e
 
   -- what is told of a file is told by its first bytes
   pub front_tells : read_of (take limit s) ≡ read_of s
   front_tells = front_of (read_of s) refl
 
-  module _ {terms ands imuls bmuls zeros dsts rhss : List ℕ} {r : Read} {terms' ands' imuls' bmuls' zeros' dsts' rhss' : List ℕ} where
-    read_by_lem : (x : Read) → read_of s ≡ x → ReadIs (take limit s) terms ands imuls bmuls zeros dsts rhss r terms' ands' imuls' bmuls' zeros' dsts' rhss'
+  module _ {terms ands imuls bmuls zeros dsts rhss : List ℕ} {r : Result FileRead FileFault} {terms' ands' imuls' bmuls' zeros' dsts' rhss' : List ℕ} where
+    read_by_lem : (x : Result FileRead Fault) → read_of s ≡ x → ReadIs (take limit s) terms ands imuls bmuls zeros dsts rhss r terms' ands' imuls' bmuls' zeros' dsts' rhss'
         ↔ ReadIs s terms ands imuls bmuls zeros dsts rhss r terms' ands' imuls' bmuls' zeros' dsts' rhss'
-    read_by_lem (Refused n j) e =
-        let f = front_of (Refused n j) e in (
+    read_by_lem (Err q) e =
+        let n = q.number in
+        let j = q.at in
+        let f = front_of (Err q) e in (
           refused_alike (take limit s) s terms ands imuls bmuls zeros dsts rhss r terms' ands' imuls' bmuls' zeros' dsts' rhss' n j f e,
           refused_alike s (take limit s) terms ands imuls bmuls zeros dsts rhss r terms' ands' imuls' bmuls' zeros' dsts' rhss' n j e f,
         )
-    read_by_lem (Done z n) e =
-        let f = front_done z n e in
+    read_by_lem (Ok x) e =
+        let f = front_done x.sizes x.terms e in
         let At : List ℕ → Type 0 = λ l. ReadIs l terms ands imuls bmuls zeros dsts rhss r terms' ands' imuls' bmuls' zeros' dsts' rhss' in
         (subst At f, subst At (sym f))
 

@@ -12,14 +12,14 @@ use Rattle.operand.specs.Numbers.{Term, Operand}
 use Rattle.lower.specs.Lists.{All, done, more}
 use Rattle.lower.specs.Accepted.{MAX_WIRES}
 use Rattle.lower.specs.Faults.{SHAPE, WIRE, first_fault, term_fault}
+use Rattle.std.specs.Prelude.{Some, None, Ok}
 use Rattle.house_file.specs.Format.{le16, terms_bytes, operands_bytes, Entry, LINEAR, payload_bytes, entry_bytes, list_bytes, file_bytes, arity, TermOk, EntryOk}
-use Rattle.house_file.specs.Decoding.{u16_at, term_at, terms_at, operand_next, operands_at, operands_next_lem, operands_terms, field_end, operands_start, entry_at, entries_at}
-use Rattle.house_file.specs.Reading.{head_fault, operand_fault, operands_fault, destination_fault, payload_fault, counted, full_fault, Small, turn_of, read_from, none, read_of, done_of, total, sizes_of, one_if}
+use Rattle.house_file.specs.Decoding.{u16_at, term_at, terms_at, operand_next, operands_at, operands_next, operands_terms, field_end, operands_start, entry_at, entries_at}
+use Rattle.house_file.specs.Reading.{head_fault, operand_fault, operands_fault, destination_fault, payload_fault, counted, full_fault, Small, turn_of, read_from, none, read_of, done_of, total, sizes_of, one_if, counts_after}
 use Rattle.house_file.specs.declared.Counts.{Counts}
-use Rattle.house_file.specs.declared.Turn.TheVariants.{Stop, Go}
 use Rattle.house_file.proofs.Sizes.{terms_size}
-use Rattle.house_scan.specs.Parts.{closing_of, entry_of}
-use Rattle.house_scan.proofs.Laws.{payload_fine, turn-entry, turn_end, entry_fine, entry_go, read_step, scan_in}
+use Rattle.house_scan.specs.Parts.{end_fault}
+use Rattle.house_scan.proofs.Laws.{payload_fine, entry_fine, turn_closed, turn_go, read_step, wires_fine, scan_in}
 use Rattle.house_fill.specs.Layout.{terms_count}
 use Rattle.house_read.proofs.Has.{Has, has_fits, has_left, has_right, has_head, has_tail, has_num, has_after, has_whole}
 
@@ -106,8 +106,8 @@ module _ (s : List ℕ) where
       let g = operand_has at o os h in
       rw (has_operands (operand_next s at) os g.rest, g.count_is, has_terms s (at + 2) o g.terms_in_lem)
 
-  next_operands : (at : ℕ) (os : List Operand) → Has s at (operands_bytes os) → operands_next_lem s (length os) at ≡ at + length (operands_bytes os)
-  unfolding operands_next_lem operands_bytes
+  next_operands : (at : ℕ) (os : List Operand) → Has s at (operands_bytes os) → operands_next s (length os) at ≡ at + length (operands_bytes os)
+  unfolding operands_next operands_bytes
   next_operands at [] h = sym (add-zero at)
   next_operands at (o ∷ os) h =
       let g = operand_has at o os h in
@@ -180,15 +180,15 @@ module _ (s : List ℕ) where
       let q = operands_start e.tag p in
       let end = p + length (payload_bytes e) in
       let n = k.count_ok in
-      let over : operands_next_lem s (length e.operands) q ≡ end = next_operands s q e.operands g.in_place ∙ g.end_is in
+      let over : operands_next s (length e.operands) q ≡ end = next_operands s q e.operands g.in_place ∙ g.end_is in
       record {
         operands_are = rw (← n) (has_operands s q e.operands g.in_place);
         dst_is = g.dest_is ∙ dst_by b e.dst (λ f. k.dst_none (eqb-false _ _ f));
         count_is = rw (← n) (count_operands s q e.operands g.in_place);
         no_fault =
-            payload_fine s w e.tag end p (dest_of w e.tag p e.dst end k.dst_ok g.dest_is g.start_in)
-            (rw (← n) (sound_operands s w end q e.operands k.operands_ok g.in_place (omega (arith, g.end_is))))
-            (rw (← n) (omega (arith, over)));
+            sym (payload_fine s w e.tag end p (sym (dest_of w e.tag p e.dst end k.dst_ok g.dest_is g.start_in)) refl refl
+            (sym (rw (← n) (sound_operands s w end q e.operands k.operands_ok g.in_place (omega (arith, g.end_is)))))
+            (rw (← n) (omega (arith, over))));
       }
 
 -- ---- an entry
@@ -264,28 +264,27 @@ module _ (s : List ℕ) where
       simp (le-ltb _ _ a, le-ltb _ _ b, le-ltb _ _ c, le-ltb _ _ i)
 
   turn_entries : (w at : ℕ) (c : Counts) (e : Entry) (es : List Entry) → EntryOk w e → EntryHas w at e es → Small (counted c e.tag (terms_count e.operands))
-      → turn_of s w c at ≡ Go (field_end s at) (counted c e.tag (terms_count e.operands))
+      → turn_of s w c at ≡ Ok (Some (record { at = field_end s at; counts = counted c e.tag (terms_count e.operands) }))
+  unfolding counts_after
   turn_entries w at c e es k g l =
       let end : at + 3 + length (payload_bytes e) ≡ field_end s at = omega (arith, g.len_is) in
       let sound : payload_fault s w e.tag (field_end s at) (at + 3) ≡ 0 = rw end at g.payload_is.no_fault in
       let other : get_or s at 0 ≡ 7 → ⊥ = λ f. omega (arith, g.tag_is, k.high) in
-      turn-entry s w c at (head_fine 2 7 at e.tag g.tag_is k.low (omega (arith, k.high)) g.inside) other
-      ∙ ap (λ (tag : ℕ). entry_of s w c tag (field_end s at) at) g.tag_is
-      ∙ entry_fine s w c e.tag (field_end s at) at (terms_count e.operands) sound (sym g.payload_is.count_is)
-      ∙ sym (entry_go _ (field_end s at) _ at (small_full _ l))
+      let fine = entry_fine s w c e.tag (field_end s at) at (terms_count e.operands) sound (sym g.payload_is.count_is) (small_full _ l) in
+      sym (turn_go s w c at (head_fine 2 7 at e.tag g.tag_is k.low (omega (arith, k.high)) g.inside) other (rw g.tag_is fine))
+      ∙ rw (g.tag_is, g.payload_is.count_is)
 
-  turn_last : (w at : ℕ) (c : Counts) → Has s at (7 ∷ le16 0) → at + 3 ≡ length s → turn_of s w c at ≡ Stop (done_of w c)
-  unfolding closing_of
+  turn_last : (w at : ℕ) (c : Counts) → Has s at (7 ∷ le16 0) → at + 3 ≡ length s → turn_of s w c at ≡ Ok None
+  unfolding end_fault
   turn_last w at c h l =
       let z : u16_at s (at + 1) ≡ 0 = has_num s (at + 1) 0 [] (has_tail s at 7 (le16 0) h) in
       let t = has_head s at 7 (le16 0) h in
       let m : length s ≤ at + 3 = omega arith in
-      turn_end s w c at (head_fine 2 7 at 7 t (omega arith) (omega arith) (omega (arith, z))) t
-      ∙ simp (eq-eqb _ _ z, le-ltb _ _ m)
+      sym (turn_closed s w c at (head_fine 2 7 at 7 t (omega arith) (omega arith) (omega (arith, z))) t (simp (eq-eqb _ _ z, le-ltb _ _ m)))
 
   -- the fields from at on read back
   read_entries : (w k at : ℕ) (c : Counts) (es : List Entry) → length es < k → EntriesOk w c es → Has s at (rest_bytes es) → at + length (rest_bytes es) ≡ length s
-      → read_from s w k c at ≡ done_of w (counts_of c es)
+      → read_from s w k c at ≡ Ok (done_of w (counts_of c es))
   unfolding counts_of
   read_entries w k at c [] l none_left h n =
       read_step s w c at k l ∙ rw (turn_last w at c (subst (Has s at) rest_none h) (omega (arith, n, ap length rest_none)))
@@ -321,7 +320,7 @@ total_of w c (e ∷ es) (one_more ok small oks) =
     omega (arith, total_of w (counted c e.tag (terms_count e.operands)) es oks, total-counted w c e.tag (terms_count e.operands) ok.low ok.high)
 
 pub record ReadsBack (wires : ℕ) (es : List Entry) : Type 0 where
-  pub accepted : read_of (file_bytes wires es) ≡ done_of wires (counts_of none es)
+  pub accepted : read_of (file_bytes wires es) ≡ Ok (done_of wires (counts_of none es))
   pub same : entries_at (file_bytes wires es) (total (sizes_of wires (counts_of none es))) 5 ≡ es
 
 pub round : (wires : ℕ) (es : List Entry) → 1 ≤ wires → wires ≤ MAX_WIRES → EntriesOk wires none es → ReadsBack wires es
@@ -339,7 +338,7 @@ round wires es one most ok =
     let head : head_fault s 1 1 0 ≡ 0 = head_fine s 1 1 0 1 (has_head s 0 1 (le16 2 ++ (le16 wires ++ rest_bytes es)) h) (omega arith) (omega arith) (omega (arith, n, few es)) in
     record {
       accepted =
-          scan_in s head n (λ z. omega (arith, w)) (omega (arith, w))
+          sym (scan_in s (wires_fine s (sym head) n (λ z. omega (arith, w)) (omega (arith, w))))
           ∙ rw w (read_entries s wires (length s) 5 none es (omega (arith, few es)) ok h₅ len);
       same = rw t (has_entries s wires 5 none es ok h₅);
     }

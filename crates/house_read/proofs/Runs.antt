@@ -1,5 +1,5 @@
 -- An accepted file, field by field. Assumes nothing.
-use mathlib.Core.Path.{◌≡◌, refl}
+use mathlib.Core.Path.{◌≡◌, refl, sym, ap}
 use mathlib.Core.Bool.{Bool, true, false, cond}
 use mathlib.Core.List.{List}
 use Prim.Native.Nat.{ℕ, zero, suc, ◌+◌, ◌≤◌, ◌<◌}
@@ -11,11 +11,12 @@ use Rattle.lower.specs.declared.Sizes.{Sizes}
 use Rattle.lower.specs.Accepted.{MAX_WIRES}
 use Rattle.lower.specs.Faults.{SHAPE, FULL, or_else}
 use Rattle.lower.proofs.Firsts.{else_first, else_second}
+use Rattle.std.specs.Prelude.{None, Result, Ok, Err}
+use Rattle.house_file.specs.declared.FileRead.{FileRead}
+use Rattle.house_file.proofs.Faults.{read_is}
 use Rattle.house_file.specs.Decoding.{u16_at, field_end}
-use Rattle.house_file.specs.Reading.{CUT, END, head_fault, payload_fault, full_fault, Small, counts_after, field_fault, sizes_of, done_of, turn_by, turn_of, follow, read_from, wires_fault, none, read_by, read_of}
+use Rattle.house_file.specs.Reading.{CUT, END, head_fault, payload_fault, full_fault, Small, counts_after, field_fault, sizes_of, done_of, turn_by, turn_of, follow, read_from, wires_fault, none, read_by, read_of, Fault, fault, file_read}
 use Rattle.house_file.specs.declared.Counts.{Counts}
-use Rattle.house_file.specs.declared.Read.{Read}
-use Rattle.house_file.specs.declared.Read.TheVariants.{Refused, Done}
 
 -- n fields with no fault from an offset and counts on, then the end; d is what they count
 pub data Runs (s : List ℕ) (w : ℕ) : Counts → ℕ → ℕ → Counts → Type 0 where
@@ -29,27 +30,29 @@ pub record Run (s : List ℕ) (w : ℕ) (c : Counts) (at : ℕ) (z : Sizes) (t :
   pub sizes_are : z ≡ sizes_of w d
   pub terms_are : t ≡ d.terms
 
-refused_done : (n at : ℕ) (z : Sizes) (t : ℕ) {A : Type 0} → Refused n at ≡ Done z t → A
-refused_done n at z t e = absurd (let h : ◌≡◌ {A = ℕ} 0 1 = cc in omega arith)
+refused_done : (f : Fault) (x : FileRead) {A : Type 0} → Err f ≡ Ok x → A
+refused_done f x e = absurd (let h : ◌≡◌ {A = ℕ} 0 1 = cc in omega arith)
 
 module _ (s : List ℕ) (w : ℕ) (z : Sizes) (t : ℕ) where
-  at_end : (c : Counts) (at : ℕ) (b : Bool) → ltb (at + 3) (length s) ≡ b → field_fault s w c at ≡ 0 → eqb (get_or s at 0) END ≡ true
-      → cond b (Refused SHAPE (at + 3)) (done_of w c) ≡ Done z t → Run s w c at z t
-  at_end c at true h f g e = refused_done SHAPE (at + 3) z t e
-  at_end c at false h f g e = record { n = 0; d = c; runs = ended f g (ltb-false _ _ h); sizes_are = cc; terms_are = cc }
+  at_end : (c : Counts) (at : ℕ) (go : Counts → ℕ → Result FileRead Fault) (b : Bool) → ltb (at + 3) (length s) ≡ b → field_fault s w c at ≡ 0 → eqb (get_or s at 0) END ≡ true
+      → follow w c go (cond b (Err (fault SHAPE (at + 3))) (Ok None)) ≡ Ok (file_read z t) → Run s w c at z t
+  at_end c at go true h f g e = refused_done (fault SHAPE (at + 3)) (file_read z t) e
+  at_end c at go false h f g e =
+      let k = sym (read_is (done_of w c) (file_read z t) e) in
+      record { n = 0; d = c; runs = ended f g (ltb-false _ _ h); sizes_are = ap (λ (x : FileRead). x.sizes) k; terms_are = ap (λ (x : FileRead). x.terms) k }
 
-  by_turn : (c : Counts) (at : ℕ) (go : Counts → ℕ → Read) (f : ℕ) (b : Bool) → field_fault s w c at ≡ f → eqb (get_or s at 0) END ≡ b
-      → ((d : Counts) (j : ℕ) → go d j ≡ Done z t → Run s w d j z t) → follow (turn_by f s w c at) go ≡ Done z t → Run s w c at z t
+  by_turn : (c : Counts) (at : ℕ) (go : Counts → ℕ → Result FileRead Fault) (f : ℕ) (b : Bool) → field_fault s w c at ≡ f → eqb (get_or s at 0) END ≡ b
+      → ((d : Counts) (j : ℕ) → go d j ≡ Ok (file_read z t) → Run s w d j z t) → follow w c go (turn_by f s c at) ≡ Ok (file_read z t) → Run s w c at z t
   unfolding turn_by
-  by_turn c at go (suc f) b h g next e = refused_done (suc f) at z t e
-  by_turn c at go zero true h g next e = at_end c at (ltb (at + 3) (length s)) refl h g (rw g at e)
+  by_turn c at go (suc f) b h g next e = refused_done (fault (suc f) at) (file_read z t) e
+  by_turn c at go zero true h g next e = at_end c at go (ltb (at + 3) (length s)) refl h g (rw g at e)
   by_turn c at go zero false h g next e =
       let r = next (counts_after s c at) (field_end s at) (rw g at e) in
       record { n = suc r.n; d = r.d; runs = onward h g r.runs; sizes_are = r.sizes_are; terms_are = r.terms_are }
 
-  pub from_runs : (k : ℕ) (c : Counts) (at : ℕ) → read_from s w k c at ≡ Done z t → Run s w c at z t
+  pub from_runs : (k : ℕ) (c : Counts) (at : ℕ) → read_from s w k c at ≡ Ok (file_read z t) → Run s w c at z t
   unfolding read_from turn_of
-  from_runs zero c at e = refused_done CUT at z t e
+  from_runs zero c at e = refused_done (fault CUT at) (file_read z t) e
   from_runs (suc k) c at e = by_turn c at (read_from s w k) (field_fault s w c at) (eqb (get_or s at 0) END) refl refl (λ d j. from_runs k d j) e
 
 -- ---- what no fault says
@@ -166,10 +169,10 @@ pub record Whole (s : List ℕ) (z : Sizes) (t : ℕ) : Type 0 where
   pub first : WiresAre s
   pub run : Run s (u16_at s 3) none 5 z t
 
-by_read : (s : List ℕ) (f : ℕ) (z : Sizes) (t : ℕ) → wires_fault s ≡ f → read_by f s ≡ Done z t → Whole s z t
+by_read : (s : List ℕ) (f : ℕ) (z : Sizes) (t : ℕ) → wires_fault s ≡ f → read_by f s ≡ Ok (file_read z t) → Whole s z t
 by_read s zero z t h e = record { first = wires_are s h; run = from_runs s (u16_at s 3) z t (length s) none 5 e }
-by_read s (suc f) z t h e = refused_done (suc f) 0 z t e
+by_read s (suc f) z t h e = refused_done (fault (suc f) 0) (file_read z t) e
 
-pub read_whole : (s : List ℕ) (z : Sizes) (t : ℕ) → read_of s ≡ Done z t → Whole s z t
+pub read_whole : (s : List ℕ) (z : Sizes) (t : ℕ) → read_of s ≡ Ok (file_read z t) → Whole s z t
 unfolding read_of
 read_whole s z t e = by_read s (wires_fault s) z t refl e

@@ -11,10 +11,10 @@ use borrow.Author.Tests.{eqb-true}
 use Rattle.operand.specs.Numbers.{Operand}
 use Rattle.lower.specs.declared.Sizes.{Sizes}
 use Rattle.lower.specs.Lists.{All, done, more, joined}
+use Rattle.std.specs.Prelude.{Ok}
 use Rattle.house_file.specs.Format.{Entry, LINEAR, row_entry, linear_entry, entries_of, file_bytes, file_of, of_kind, rows_from, definition_from, system_from, arity, EntryOk}
 use Rattle.house_file.specs.Decoding.{entries_at}
-use Rattle.house_file.specs.Reading.{read_of, total}
-use Rattle.house_file.specs.declared.Read.TheVariants.{Done}
+use Rattle.house_file.specs.Reading.{read_of, total, file_read}
 use Rattle.house_read.proofs.Exact.{accepted_entries}
 
 -- the entries by kind, each kind in its order
@@ -73,7 +73,7 @@ module _ (w : ℕ) where
       )
 
 -- the file of the system that a file says
-pub file_sorted : (s : List ℕ) (z : Sizes) (t : ℕ) → read_of s ≡ Done z t
+pub file_sorted : (s : List ℕ) (z : Sizes) (t : ℕ) → read_of s ≡ Ok (file_read z t)
     → file_of (system_from z.wires (entries_at s (total z) 5)) ≡ file_bytes z.wires (in_tag_order (entries_at s (total z) 5))
 unfolding file_of system_from
 file_sorted s z t e =

@@ -18,11 +18,12 @@ use Rattle.lower.specs.Faults.{memory_fault}
 use Rattle.lower.proofs.Laws.{all_both, all_imp}
 use Rattle.lower.proofs.Alls.{all_join}
 use Rattle.lower.proofs.Explains.{standing_right}
+use Rattle.std.specs.Prelude.{Result, Ok}
+use Rattle.house_file.specs.declared.FileRead.{FileRead}
+use Rattle.house_file.specs.declared.FileFault.{FileFault}
 use Rattle.house_file.specs.Format.{Entry, LINEAR, of_kind, rows_from, definition_from, system_from, arity, TermOk, EntryOk}
 use Rattle.house_file.specs.Decoding.{entries_at}
-use Rattle.house_file.specs.Reading.{read_of, total}
-use Rattle.house_file.specs.declared.Read.{Read}
-use Rattle.house_file.specs.declared.Read.TheVariants.{Done}
+use Rattle.house_file.specs.Reading.{read_of, total, file_read, by_number}
 use Rattle.house_fill.specs.Layout.{Filled, terms_count, terms_in_all, terms_laid, number_from, numbers_from, shown, list_laid, destinations_laid}
 use Rattle.house_read.specs.Answer.{ReadIs}
 use Rattle.house_read.proofs.Tallies.{terms_of_lem}
@@ -118,15 +119,15 @@ arities : (arity 2 ≡ 3) × ((arity 3 ≡ 4) × ((arity 4 ≡ 6) × (arity 5 �
 unfolding arity
 arities = (refl, (refl, (refl, refl)))
 
-module _ {s terms ands imuls bmuls zeros dsts rhss : List ℕ} {r : Read} {terms' ands' imuls' bmuls' zeros' dsts' rhss' : List ℕ} where
-  pub read_stands : (z : Sizes) (n : ℕ) → ReadIs s terms ands imuls bmuls zeros dsts rhss r terms' ands' imuls' bmuls' zeros' dsts' rhss' → r ≡ Done z n
+module _ {s terms ands imuls bmuls zeros dsts rhss : List ℕ} {r : Result FileRead FileFault} {terms' ands' imuls' bmuls' zeros' dsts' rhss' : List ℕ} where
+  pub read_stands : (z : Sizes) (n : ℕ) → ReadIs s terms ands imuls bmuls zeros dsts rhss r terms' ands' imuls' bmuls' zeros' dsts' rhss' → r ≡ Ok (file_read z n)
       → memory_fault MAX_TERMS z (stores terms' [] ands' imuls' bmuls' zeros' dsts' rhss') ≡ 0
   unfolding system_from row_handles
   read_stands z n is e =
       let es = entries_at s (total z) 5 in
       let w = z.wires in
       let held = stores terms' [] ands' imuls' bmuls' zeros' dsts' rhss' in
-      let g = answered (length terms) (length ands) (length imuls) (length bmuls) (length zeros) (length dsts) (length rhss) (read_of s) (length s) z n (sym is.answer ∙ e) in
+      let g = answered (length terms) (length ands) (length imuls) (length bmuls) (length zeros) (length dsts) (length rhss) (read_of s) (length s) z n (sym is.answer ∙ ap by_number e) in
       let m = g.1 in
       let k = accepted_entries s z n g.0 in
       let f : Filled es terms ands imuls bmuls zeros dsts rhss terms' ands' imuls' bmuls' zeros' dsts' rhss' = rw e at is.filled in

@@ -10,11 +10,11 @@ use Rattle.operand.specs.Numbers.{Operand}
 use Rattle.lower.specs.declared.Sizes.{Sizes}
 use Rattle.lower.specs.Lists.{All, done, more, joined, sum_of}
 use Rattle.lower.specs.Model.{Definition, row_operands, definition_operands, terms_of}
+use Rattle.std.specs.Prelude.{Ok}
 use Rattle.house_file.specs.Format.{Entry, LINEAR, of_kind, rows_from, definition_from, system_from, sizes_in, EntryOk, Sound, file_bytes}
-use Rattle.house_file.specs.Reading.{counted, Small, none, sizes_of, read_of, total}
+use Rattle.house_file.specs.Reading.{counted, Small, none, sizes_of, read_of, total, file_read}
 use Rattle.house_file.specs.Decoding.{entries_at}
 use Rattle.house_file.specs.declared.Counts.{Counts}
-use Rattle.house_file.specs.declared.Read.TheVariants.{Done}
 use Rattle.house_fill.specs.Layout.{terms_count, terms_in_all}
 use Rattle.house_read.proofs.Round.{counts_of, EntriesOk, none_left, one_more, round}
 
@@ -164,7 +164,7 @@ counts_small w es k =
 
 -- what the reader makes of a sound file
 pub record Accepts (wires : ℕ) (es : List Entry) : Type 0 where
-  pub accepted : read_of (file_bytes wires es) ≡ Done (sizes_in (system_from wires es)) (length (terms_of (system_from wires es)))
+  pub accepted : read_of (file_bytes wires es) ≡ Ok (file_read (sizes_in (system_from wires es)) (length (terms_of (system_from wires es))))
   pub same : entries_at (file_bytes wires es) (total (sizes_in (system_from wires es))) 5 ≡ es
 
 pub accepts : (wires : ℕ) (es : List Entry) → Sound wires es → Accepts wires es

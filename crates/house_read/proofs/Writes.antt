@@ -12,9 +12,9 @@ use Rattle.lower.specs.Model.{Row, Definition, System, row_operands, definition_
 use Rattle.lower.specs.Accepted.{Shaped, Named, Shifted, ShiftsOf, Limits, MAX_TERMS}
 use Rattle.lower.proofs.Laws.{all_left, all_right, all_both}
 use Rattle.lower.proofs.Alls.{all_zip, all_unjoin}
+use Rattle.std.specs.Prelude.{Ok}
 use Rattle.house_file.specs.Format.{Entry, LINEAR, row_entry, linear_entry, entries_of, file_of, of_kind, rows_from, definition_from, system_from, sizes_in, arity, TermOk, EntryOk, Sound}
-use Rattle.house_file.specs.Reading.{read_of, entries_read}
-use Rattle.house_file.specs.declared.Read.TheVariants.{Done}
+use Rattle.house_file.specs.Reading.{read_of, entries_read, file_read}
 use Rattle.house_read.proofs.Tallies.{accepts}
 
 -- ---- the entries of a system make the system
@@ -154,14 +154,14 @@ module _ (p : System) (shaped : Shaped p) (named : Named p) (shifted : Shifted p
 
   -- "Written files of at most 8,192 terms read back to the same lists"
   pub record ReadBack : Type 0 where
-    pub answer : read_of (file_of p) ≡ Done (sizes_in p) (length (terms_of p))
+    pub answer : read_of (file_of p) ≡ Ok (file_read (sizes_in p) (length (terms_of p)))
     pub same : system_from p.wires (entries_read (file_of p) (read_of (file_of p))) ≡ p
 
   pub file_back : ReadBack
   unfolding file_of
   file_back =
       let r = accepts p.wires (entries_of p) system_sound in
-      let a : read_of (file_of p) ≡ Done (sizes_in p) (length (terms_of p)) = rw (entries_back p) at r.accepted in
+      let a : read_of (file_of p) ≡ Ok (file_read (sizes_in p) (length (terms_of p))) = rw (entries_back p) at r.accepted in
       record {
         answer = a;
         same = rw (a) (ap (system_from p.wires) (rw (entries_back p) at r.same) ∙ entries_back p);

@@ -5,8 +5,9 @@ ghost use Rattle.std.specs.Prelude.{◌≡◌, ◌<◌, ◌≤◌};
 ghost use Rattle.house_file.specs.Reading.{total};
 ghost use Rattle.house_read.specs.Answer.{Fits, room_of, ReadIs};
 
-use house_file::Read;
+use house_file::{FileFault, FileRead};
 use lower::Sizes;
+use refusal::Refusal;
 
 // Whether the stores have room for what was counted.
 fn has_room(
@@ -61,6 +62,7 @@ fn fields(z: Sizes) -> usize
 }
 
 // Reads a house file into the lent stores. A refusal leaves them as they were.
+// Kept: a parameter for each store, as C lends them.
 pub fn read(
     input: &[u8],
     terms: &mut [u64],
@@ -70,40 +72,28 @@ pub fn read(
     zeros: &mut [u64],
     dsts: &mut [u16],
     rhss: &mut [u64],
-) -> Read
+) -> Result<FileRead, FileFault>
     ensures { ReadIs input.now terms.old ands.old imuls.old bmuls.old zeros.old dsts.old rhss.old result terms.new ands.new imuls.new bmuls.new zeros.new dsts.new rhss.new }
 {
-    match house_scan::scan(input) {
-        Read::Refused { number, at } => Read::Refused {
-            number: number,
-            at: at,
-        },
-        Read::Done {
-            sizes,
-            terms: count,
-        } => {
-            if has_room(
-                sizes,
-                count,
-                terms.len(),
-                ands.len(),
-                imuls.len(),
-                bmuls.len(),
-                zeros.len(),
-                dsts.len(),
-                rhss.len(),
-            ) {
-                let n = fields(sizes);
-                house_fill::fill(input, n, terms, ands, imuls, bmuls, zeros, dsts, rhss);
-                return Read::Done {
-                    sizes: sizes,
-                    terms: count,
-                };
-            }
-            Read::Refused {
-                number: house_file::ROOM,
-                at: input.len(),
-            }
-        }
+    let seen = house_scan::scan(input)?;
+    if has_room(
+        seen.sizes,
+        seen.terms,
+        terms.len(),
+        ands.len(),
+        imuls.len(),
+        bmuls.len(),
+        zeros.len(),
+        dsts.len(),
+        rhss.len(),
+    ) {
+        let n = fields(seen.sizes);
+        house_fill::fill(input, n, terms, ands, imuls, bmuls, zeros, dsts, rhss);
+        Ok(seen)
+    } else {
+        Err(FileFault {
+            refusal: Refusal::Room,
+            at: input.len(),
+        })
     }
 }

@@ -1,12 +1,6 @@
--- Laws of the reading: how a fault, its number and the answers go together, and one more turn of each list.
--- Assumes nothing.
-use Rattle.house_scan.specs.Parts.{part_of, head_of, closing_of, entry_by, entry_of, Within, Ends, Onward}
-use Rattle.house_scan.specs.declared.Part.{Part}
-use Rattle.house_scan.specs.declared.Part.TheVariants.{Fine, Bad}
-use Rattle.house_scan.specs.declared.Head.{Head}
-use Rattle.house_scan.specs.declared.Head.TheVariants.{Open, Shut}
-use mathlib.Core.Path.{◌≡◌, refl, sym, ◌∙◌, subst}
-use mathlib.Core.Bool.{Bool, true, false}
+-- Laws of the reading: what each step's fault comes to, and one more turn of each list. Assumes nothing.
+use mathlib.Core.Path.{◌≡◌, refl, sym, ap, ◌∙◌}
+use mathlib.Core.Bool.{Bool, true, false, cond}
 use mathlib.Core.List.{List}
 use Prim.Native.Nat.{ℕ, zero, suc, ◌+◌, ◌-◌, ◌*◌, ◌≤◌, ◌<◌}
 use native.Mathlib.Nat.{not-suc-le-zero}
@@ -15,60 +9,43 @@ use native.Mathlib.Omega.{arith}
 use borrow.Author.Tests.{lt-ltb, le-ltb, eq-eqb, ne_eqb}
 use lib.Dec.{ltb, eqb}
 use lib.ListN.{length, get_or}
-use Rattle.house_file.specs.Format.{arity}
-use Rattle.house_file.specs.Decoding.{u16_at, operand_next, operands_next_lem, operands_terms, field_end, operands_start}
-use Rattle.house_file.specs.Reading.{head_fault, operand_fault, operands_fault, destination_fault, payload_fault, counted, full_fault, Small, counts_after, field_fault, after_end, turn_by, turn_of, follow, read_from, wires_fault, none, read_by, read_of}
-use mathlib.Core.Bool.{cond}
-use Rattle.lower.specs.Faults.{or_else}
-use Rattle.shift.specs.Shifts.{valid_number}
+use Rattle.std.specs.Prelude.{Option, Some, None, Result, Ok, Err}
+use Rattle.refusal.specs.declared.Refusal.{Refusal}
+use Rattle.refusal.specs.declared.Refusal.TheVariants as R
+use Rattle.refusal.specs.Refusals.{number_of}
+use Rattle.lower.specs.Faults.{WIRE, or_else, first_fault, term_fault}
 use Rattle.word.specs.Answers.{SHIFT}
-use Rattle.shift.specs.Shifts.{shift_at}
+use Rattle.shift.specs.Shifts.{valid_number, shift_at}
 use Rattle.shift.specs.Answers.{found}
 use Rattle.shift.specs.declared.Shift.{Shift}
-use Rattle.shift.specs.declared.Found.TheVariants as F
-use Rattle.lower.specs.Faults.{WIRE, first_fault, term_fault}
-use Rattle.house_file.specs.Decoding.{term_at, terms_at}
+use Rattle.house_file.specs.Format.{arity}
+use Rattle.house_file.specs.Decoding.{u16_at, term_at, terms_at, operand_next, operands_next, operands_terms, field_end, operands_start}
+use Rattle.house_file.specs.Reading.{Fault, fault, head_fault, operand_fault, operands_fault, destination_fault, payload_fault, counted, full_fault, Small, counts_after, field_fault, after_end, turn_by, turn_of, follow, read_from, wires_fault, none, read_by, read_of}
 use Rattle.house_file.specs.declared.Counts.{Counts}
-use Rattle.house_file.specs.declared.Read.{Read}
-use Rattle.house_file.specs.declared.Read.TheVariants.{Refused}
-use Rattle.house_file.specs.declared.Turn.{Turn}
-use Rattle.house_file.specs.declared.Turn.TheVariants.{Stop, Go}
+use Rattle.house_file.specs.declared.FileRead.{FileRead}
+use Rattle.house_file.specs.declared.Place.{Place}
+use Rattle.house_file.proofs.Faults.{number_above, first_told}
+use Rattle.house_scan.specs.Parts.{end_fault, entry_fault}
 
--- ---- what an answer says of its fault
+-- ---- a shift by its number
 
-found-valid : (b : Bool) (v w : Shift) → cond b (F.Valid v) F.Refused ≡ F.Valid w → b ≡ true
-found-valid true v w e = refl
-found-valid false v w e = cc
+pub shift_valid : (n : ℕ) (v : Shift) → found n ≡ Ok v → valid_number n ≡ true
+shift_valid n v e = by (valid_number n) e
+  where
+    by : (b : Bool) → cond b (Ok (shift_at n)) (Err R.Shift) ≡ Ok v → b ≡ true
+    by true h = refl
+    by false h = cc
 
-found_refused : (b : Bool) (v : Shift) → cond b (F.Valid v) F.Refused ≡ F.Refused → b ≡ false
-found_refused true v e = cc
-found_refused false v e = refl
+pub record IsNoShift (n : ℕ) (r : Refusal) : Type 0 where
+  pub invalid : valid_number n ≡ false
+  pub number : number_of r ≡ SHIFT
 
-pub shift_valid : (n : ℕ) (v : Shift) → found n ≡ F.Valid v → valid_number n ≡ true
-shift_valid n v e = found-valid (valid_number n) (shift_at n) v e
-
-pub shift_refused : (n : ℕ) → found n ≡ F.Refused → valid_number n ≡ false
-shift_refused n e = found_refused (valid_number n) (shift_at n) e
-
--- a part that is bad is bad by its fault, whatever comes after it
-bad_by : (f next terms field number at rest next' terms' : ℕ) → part_of f next terms field ≡ Bad number at → Bad number at ≡ part_of (or_else f rest) next' terms' field
-unfolding part_of
-bad_by zero next terms field number at rest next' terms' e = cc
-bad_by (suc f) next terms field number at rest next' terms' e = sym e
-
-pub part_bad : (f next terms field number at rest next' terms' : ℕ) {g : ℕ} → part_of f next terms field ≡ Bad number at → g ≡ or_else f rest → Bad number at ≡ part_of g next' terms' field
-part_bad f next terms field number at rest next' terms' e h = rw h (bad_by f next terms field number at rest next' terms' e)
-
--- a part that is fine has no fault, and says where it ends
-pub record FineIs (f next terms next' terms' : ℕ) : Type 0 where
-  pub fault : f ≡ 0
-  pub next_is : next' ≡ next
-  pub terms_is : terms' ≡ terms
-
-pub part_fine : (f next terms field next' terms' : ℕ) → part_of f next terms field ≡ Fine next' terms' → FineIs f next terms next' terms'
-unfolding part_of
-part_fine zero next terms field next' terms' e = record { fault = refl; next_is = cc; terms_is = cc }
-part_fine (suc f) next terms field next' terms' e = record { fault = cc; next_is = cc; terms_is = cc }
+pub no_shift : (n : ℕ) (r : Refusal) → found n ≡ Err r → IsNoShift n r
+no_shift n r e = by (valid_number n) refl e
+  where
+    by : (b : Bool) → valid_number n ≡ b → cond b (Ok (shift_at n)) (Err R.Shift) ≡ Err r → IsNoShift n r
+    by true k h = cc
+    by false k h = let q : r ≡ R.Shift = cc in record { invalid = k; number = ap number_of q }
 
 -- ---- a term
 module _ (s : List ℕ) (w at : ℕ) where
@@ -76,42 +53,41 @@ module _ (s : List ℕ) (w at : ℕ) where
   unfolding term_fault term_at
   term_wire h = simp (le-ltb _ _ h)
 
-  pub term_inner : u16_at s at < w → found (u16_at s (at + 2)) ≡ F.Refused → term_fault w (term_at s at) ≡ SHIFT
+  pub term_inner : (r : Refusal) → u16_at s at < w → found (u16_at s (at + 2)) ≡ Err r → number_of r ≡ term_fault w (term_at s at)
   unfolding term_fault term_at
-  term_inner h e = rw (lt-ltb _ _ h, shift_refused _ e)
+  term_inner r h e =
+      let n = no_shift (u16_at s (at + 2)) r e in
+      rw (lt-ltb _ _ h, n.invalid) n.number
 
-  pub term_outer : {v : Shift} → u16_at s at < w → found (u16_at s (at + 2)) ≡ F.Valid v → found (u16_at s (at + 4)) ≡ F.Refused → term_fault w (term_at s at) ≡ SHIFT
+  pub term_outer : (r : Refusal) {v : Shift} → u16_at s at < w → found (u16_at s (at + 2)) ≡ Ok v → found (u16_at s (at + 4)) ≡ Err r → number_of r ≡ term_fault w (term_at s at)
   unfolding term_fault term_at
-  term_outer h d e = rw (lt-ltb _ _ h, shift_valid _ _ d, shift_refused _ e)
+  term_outer r {v} h d e =
+      let m = shift_valid (u16_at s (at + 2)) v d in
+      let n = no_shift (u16_at s (at + 4)) r e in
+      rw (lt-ltb _ _ h, m, n.invalid) n.number
 
-  pub term_sound : {v v' : Shift} → u16_at s at < w → found (u16_at s (at + 2)) ≡ F.Valid v → found (u16_at s (at + 4)) ≡ F.Valid v' → term_fault w (term_at s at) ≡ 0
+  pub term_sound : {v v' : Shift} → u16_at s at < w → found (u16_at s (at + 2)) ≡ Ok v → found (u16_at s (at + 4)) ≡ Ok v' → 0 ≡ term_fault w (term_at s at)
   unfolding term_fault term_at
   term_sound h d e = rw (lt-ltb _ _ h, shift_valid _ _ d, shift_valid _ _ e)
 
-  -- one term of several
-  pub terms_step : (n : ℕ) → 0 < n
-      → first_fault (term_fault w) (terms_at s n at) ≡ or_else (term_fault w (term_at s at)) (first_fault (term_fault w) (terms_at s (n - 1) (at + 6)))
+  -- the i-th term of n
+  pub terms_step : (n i : ℕ) → i < n → first_fault (term_fault w) (terms_at s (n - i) (at + 6 * i))
+      ≡ or_else (term_fault w (term_at s (at + 6 * i))) (first_fault (term_fault w) (terms_at s (n - (i + 1)) (at + 6 * (i + 1))))
   unfolding terms_at
-  terms_step zero h = absurd (not-suc-le-zero h)
-  terms_step (suc n) h = rw sub-one
+  terms_step n i h =
+      let k : n - i ≡ suc (n - (i + 1)) = omega arith in
+      let p : at + 6 * i + 6 ≡ at + 6 * (i + 1) = omega arith in
+      ap (λ (m : ℕ). first_fault (term_fault w) (terms_at s m (at + 6 * i))) k
+      ∙ ap (λ (a : ℕ). or_else (term_fault w (term_at s (at + 6 * i))) (first_fault (term_fault w) (terms_at s (n - (i + 1)) a))) p
+
+  pub terms_go : (n i : ℕ) → i < n → 0 ≡ term_fault w (term_at s (at + 6 * i))
+      → first_fault (term_fault w) (terms_at s (n - i) (at + 6 * i)) ≡ first_fault (term_fault w) (terms_at s (n - (i + 1)) (at + 6 * (i + 1)))
+  terms_go n i h e =
+      terms_step n i h ∙ ap (λ (f : ℕ). or_else f (first_fault (term_fault w) (terms_at s (n - (i + 1)) (at + 6 * (i + 1))))) (sym e)
 
   pub terms_none : first_fault (term_fault w) (terms_at s 0 at) ≡ 0
   unfolding terms_at
   terms_none = refl
-
--- a part with no fault is fine
-pub part_done : (f next terms field next' terms' : ℕ) → f ≡ 0 → next' ≡ next → terms' ≡ terms → Fine next' terms' ≡ part_of f next terms field
-unfolding part_of
-part_done f next terms field next' terms' e p q = rw (e, p, q)
-
--- a part that ends by end, and has no more terms than fit, keeps the bounds
-within_by : (f next terms field at end : ℕ) → at + 6 * terms ≤ next → next ≤ end → Within (part_of f next terms field) at end
-unfolding part_of
-within_by zero next terms field at end h k = (h, k)
-within_by (suc f) next terms field at end h k = tt
-
-pub within_of : {r : Part} (f next terms field at end : ℕ) → r ≡ part_of f next terms field → at + 6 * terms ≤ next → next ≤ end → Within r at end
-within_of f next terms field at end e h k = rw e (within_by f next terms field at end h k)
 
 -- ---- an operand
 module _ (s : List ℕ) (w end at : ℕ) where
@@ -127,179 +103,174 @@ module _ (s : List ℕ) (w end at : ℕ) where
   unfolding operand_fault
   operand_in h k = simp (le-ltb _ _ h, le-ltb _ _ k)
 
-  -- one operand of several
-  pub operands_step : (n : ℕ) → 0 < n → operands_fault s w end n at ≡ or_else (operand_fault s w end at) (operands_fault s w end (n - 1) (operand_next s at))
+  -- the i-th operand of k
+  pub operands_step : (k i : ℕ) → i < k → operands_fault s w end (k - i) at ≡ or_else (operand_fault s w end at) (operands_fault s w end (k - (i + 1)) (operand_next s at))
   unfolding operands_fault
-  operands_step zero h = absurd (not-suc-le-zero h)
-  operands_step (suc n) h = rw sub-one
+  operands_step k i h = let e : k - i ≡ suc (k - (i + 1)) = omega arith in rw e
+
+  pub operands_go : (k i : ℕ) → i < k → 0 ≡ operand_fault s w end at → operands_fault s w end (k - i) at ≡ operands_fault s w end (k - (i + 1)) (operand_next s at)
+  operands_go k i h e =
+      operands_step k i h ∙ ap (λ (f : ℕ). or_else f (operands_fault s w end (k - (i + 1)) (operand_next s at))) (sym e)
 
   pub operands_none : operands_fault s w end 0 at ≡ 0
   unfolding operands_fault
   operands_none = refl
 
 module _ (s : List ℕ) (at : ℕ) where
-  pub next_step : (n : ℕ) → 0 < n → operands_next_lem s n at ≡ operands_next_lem s (n - 1) (operand_next s at)
-  unfolding operands_next_lem
-  next_step zero h = absurd (not-suc-le-zero h)
-  next_step (suc n) h = rw sub-one
+  pub next_step : (k i : ℕ) → i < k → operands_next s (k - i) at ≡ operands_next s (k - (i + 1)) (operand_next s at)
+  unfolding operands_next
+  next_step k i h = let e : k - i ≡ suc (k - (i + 1)) = omega arith in rw e
 
-  pub next_none : operands_next_lem s 0 at ≡ at
-  unfolding operands_next_lem
+  pub next_none : operands_next s 0 at ≡ at
+  unfolding operands_next
   next_none = refl
 
-  pub sum_step : (n : ℕ) → 0 < n → operands_terms s n at ≡ u16_at s at + operands_terms s (n - 1) (operand_next s at)
+  pub sum_step : (k i : ℕ) → i < k → operands_terms s (k - i) at ≡ u16_at s at + operands_terms s (k - (i + 1)) (operand_next s at)
   unfolding operands_terms
-  sum_step zero h = absurd (not-suc-le-zero h)
-  sum_step (suc n) h = rw sub-one
+  sum_step k i h = let e : k - i ≡ suc (k - (i + 1)) = omega arith in rw e
 
-  pub sum-none : operands_terms s 0 at ≡ 0
+  pub sum_none : operands_terms s 0 at ≡ 0
   unfolding operands_terms
-  sum-none = refl
-
--- what the bounds say of a part that is fine
-pub within_fine : {r : Part} {next terms : ℕ} (at end : ℕ) → r ≡ Fine next terms → Within r at end → (at + 6 * terms ≤ next) × (next ≤ end)
-within_fine at end e h = subst (λ (p : Part). Within p at end) e h
+  sum_none = refl
 
 -- ---- a payload
 module _ (s : List ℕ) (w tag end at : ℕ) where
-  pub payload_is : payload_fault s w tag end at ≡ or_else (destination_fault s w tag end at) (or_else (operands_fault s w end (arity tag) (operands_start tag at)) (cond (ltb (operands_next_lem s (arity tag) (operands_start tag at)) end) 3 0))
+  payload_is : payload_fault s w tag end at ≡ or_else (destination_fault s w tag end at) (or_else (operands_fault s w end (arity tag) (operands_start tag at)) (cond (ltb (operands_next s (arity tag) (operands_start tag at)) end) 3 0))
   unfolding payload_fault
   payload_is = refl
 
-  pub payload_left : destination_fault s w tag end at ≡ 0 → operands_fault s w end (arity tag) (operands_start tag at) ≡ 0 → operands_next_lem s (arity tag) (operands_start tag at) < end → payload_fault s w tag end at ≡ 3
-  payload_left d o h = payload_is ∙ simp (d, o, lt-ltb _ _ h)
+  pub payload_dest : (r : Refusal) → number_of r ≡ destination_fault s w tag end at → number_of r ≡ payload_fault s w tag end at
+  payload_dest r e = first_told r _ e ∙ sym payload_is
 
-  pub payload_fine : destination_fault s w tag end at ≡ 0 → operands_fault s w end (arity tag) (operands_start tag at) ≡ 0 → end ≤ operands_next_lem s (arity tag) (operands_start tag at) → payload_fault s w tag end at ≡ 0
-  payload_fine d o h = payload_is ∙ simp (d, o, le-ltb _ _ h)
+  module _ (d : 0 ≡ destination_fault s w tag end at) {k b : ℕ} (h : k ≡ arity tag) (i : b ≡ operands_start tag at) where
+    pub payload_operands : (r : Refusal) → number_of r ≡ operands_fault s w end k b → number_of r ≡ payload_fault s w tag end at
+    payload_operands r e = rw (payload_is, ← d, ← h, ← i) (first_told r _ e)
 
--- ---- an entry, and the fields together
-bad_entry : (f next terms field number at rest end : ℕ) (d : Counts) → part_of f next terms field ≡ Bad number at → Stop (Refused number at) ≡ entry_by (or_else f rest) end d field
-unfolding part_of entry_by
-bad_entry zero next terms field number at rest end d e = cc
-bad_entry (suc f) next terms field number at rest end d e =
-    let h : number ≡ suc f = cc in
-    let k : at ≡ field = cc in
-    cc
+    module _ (o : 0 ≡ operands_fault s w end k b) where
+      pub payload_left : operands_next s k b < end → 3 ≡ payload_fault s w tag end at
+      payload_left l = rw (payload_is, ← d, ← h, ← i, ← o, lt-ltb _ _ l)
 
+      pub payload_fine : end ≤ operands_next s k b → 0 ≡ payload_fault s w tag end at
+      payload_fine l = rw (payload_is, ← d, ← h, ← i, ← o, le-ltb _ _ l)
+
+-- ---- an entry
 module _ (s : List ℕ) (wires : ℕ) (c : Counts) (tag end at : ℕ) where
-  pub entry_bad : (next terms number at' : ℕ) → part_of (payload_fault s wires tag end (at + 3)) next terms at ≡ Bad number at' → Stop (Refused number at') ≡ entry_of s wires c tag end at
-  unfolding entry_of
-  entry_bad next terms number at' e = bad_entry _ next terms at number at' _ end _ e
-
-  pub entry_fine : (terms : ℕ) → payload_fault s wires tag end (at + 3) ≡ 0 → terms ≡ operands_terms s (arity tag) (operands_start tag (at + 3)) → entry_of s wires c tag end at ≡ entry_by (full_fault (counted c tag terms)) end (counted c tag terms) at
-  unfolding entry_of
-  entry_fine terms e h = rw (e, h)
-
-pub entry_full : (f end : ℕ) (d : Counts) (at : ℕ) → 0 < f → Stop (Refused f at) ≡ entry_by f end d at
-unfolding entry_by
-entry_full zero end d at h = absurd (not-suc-le-zero h)
-entry_full (suc f) end d at h = refl
-
-pub entry_go : (f end : ℕ) (d : Counts) (at : ℕ) → f ≡ 0 → Go end d ≡ entry_by f end d at
-unfolding entry_by
-entry_go f end d at h = rw h
-
-pub record OpenIs (f tag end tag' end' : ℕ) : Type 0 where
-  pub fault : f ≡ 0
-  pub tag_is : tag' ≡ tag
-  pub end_is : end' ≡ end
-
-pub head_open : (f tag end tag' end' : ℕ) → head_of f tag end ≡ Open tag' end' → OpenIs f tag end tag' end'
-unfolding head_of
-head_open zero tag end tag' end' e = record { fault = refl; tag_is = cc; end_is = cc }
-head_open (suc f) tag end tag' end' e = record { fault = cc; tag_is = cc; end_is = cc }
-
-pub ends_open : {r : Head} {tag end : ℕ} (at len : ℕ) → r ≡ Open tag end → Ends r at len → (at + 3 ≤ end) × (end ≤ len)
-ends_open at len e h = subst (λ (p : Head). Ends p at len) e h
+  pub entry_fine : (terms : ℕ) → payload_fault s wires tag end (at + 3) ≡ 0 → terms ≡ operands_terms s (arity tag) (operands_start tag (at + 3)) → full_fault (counted c tag terms) ≡ 0 → 0 ≡ entry_fault s wires c tag end at
+  unfolding entry_fault
+  entry_fine terms p t f = rw (p, ← t) (sym f)
 
 -- ---- one field
 module _ (s : List ℕ) (wires : ℕ) (c : Counts) (at : ℕ) where
-  shut_by : (f tag end number rest : ℕ) → head_of f tag end ≡ Shut number → Stop (Refused number at) ≡ turn_by (or_else f rest) s wires c at
-  unfolding head_of turn_by
-  shut_by zero tag end number rest e = cc
-  shut_by (suc f) tag end number rest e =
-      let h : number ≡ suc f = cc in
-      rw h
+  turn_told : (r : Refusal) (f : ℕ) → number_of r ≡ f → Err (fault (number_of r) at) ≡ turn_by f s c at
+  unfolding turn_by
+  turn_told r zero e = absurd (omega (arith, number_above r))
+  turn_told r (suc f) e = rw e
 
-  pub turn_shut : (tag end number : ℕ) → head_of (head_fault s 2 7 at) tag end ≡ Shut number → Stop (Refused number at) ≡ turn_of s wires c at
+  pub turn_shut : (r : Refusal) → number_of r ≡ head_fault s 2 7 at → Err (fault (number_of r) at) ≡ turn_of s wires c at
   unfolding turn_of field_fault
-  turn_shut tag end number e = shut_by (head_fault s 2 7 at) tag end number _ e
+  turn_shut r e = turn_told r _ (first_told r _ e)
 
-  end_by : (b : Bool) → get_or s at 0 ≡ 7 → turn_by (cond b 0 3) s wires c at ≡ Stop (cond b (after_end s wires c at) (Refused 3 at))
+  end_by : (b : Bool) → get_or s at 0 ≡ 7 → turn_by (cond b 0 3) s c at ≡ cond b (after_end s at) (Err (fault 3 at))
   unfolding turn_by
   end_by true e = simp (eq-eqb _ _ e)
   end_by false e = refl
 
-  pub turn_end : head_fault s 2 7 at ≡ 0 → get_or s at 0 ≡ 7 → turn_of s wires c at ≡ Stop (closing_of s wires c at)
-  unfolding turn_of field_fault closing_of
+  turn_end : head_fault s 2 7 at ≡ 0 → get_or s at 0 ≡ 7 → turn_of s wires c at ≡ cond (eqb (u16_at s (at + 1)) 0) (after_end s at) (Err (fault 3 at))
+  unfolding turn_of field_fault
   turn_end h e = simp (h, eq-eqb _ _ e) (end_by (eqb (u16_at s (at + 1)) 0) e)
 
-  entry-by : (f : ℕ) → (get_or s at 0 ≡ 7 → ⊥) → turn_by f s wires c at ≡ entry_by f (field_end s at) (counts_after s c at) at
-  unfolding turn_by entry_by
-  entry-by zero e = simp (ne_eqb _ _ e)
-  entry-by (suc f) e = refl
+  -- the end field is told by its own fault, or ends the reading
+  pub turn_closed : head_fault s 2 7 at ≡ 0 → get_or s at 0 ≡ 7 → end_fault s at ≡ Ok tt → Ok None ≡ turn_of s wires c at
+  unfolding end_fault
+  turn_closed h e q = sym (turn_end h e ∙ by (eqb (u16_at s (at + 1)) 0) (ltb (at + 3) (length s)) q)
+    where
+      by : (b d : Bool) → cond {A = Result (Unit {0}) Fault} b (cond d (Err (fault 3 (at + 3))) (Ok tt)) (Err (fault 3 at)) ≡ Ok tt → cond {A = Result (Option Place) Fault} b (cond d (Err (fault 3 (at + 3))) (Ok None)) (Err (fault 3 at)) ≡ Ok None
+      by true true q = cc
+      by true false q = refl
+      by false d q = cc
 
-  pub turn-entry : head_fault s 2 7 at ≡ 0 → (get_or s at 0 ≡ 7 → ⊥) → turn_of s wires c at ≡ entry_of s wires c (get_or s at 0) (field_end s at) at
-  unfolding turn_of field_fault entry_of counts_after
-  turn-entry h e = simp (h, ne_eqb _ _ e) (entry-by _ e)
+  pub turn_unclosed : (f : Fault) → head_fault s 2 7 at ≡ 0 → get_or s at 0 ≡ 7 → Err f ≡ end_fault s at → Err f ≡ turn_of s wires c at
+  unfolding end_fault
+  turn_unclosed f h e q = sym (turn_end h e ∙ by (eqb (u16_at s (at + 1)) 0) (ltb (at + 3) (length s)) q)
+    where
+      by : (b d : Bool) → Err f ≡ cond {A = Result (Unit {0}) Fault} b (cond d (Err (fault 3 (at + 3))) (Ok tt)) (Err (fault 3 at)) → cond {A = Result (Option Place) Fault} b (cond d (Err (fault 3 (at + 3))) (Ok None)) (Err (fault 3 at)) ≡ Err f
+      by true true q = let k : f ≡ fault 3 (at + 3) = cc in rw k
+      by true false q = cc
+      by false d q = let k : f ≡ fault 3 at = cc in rw k
 
-  pub read_step : (k : ℕ) → 0 < k → read_from s wires k c at ≡ follow (turn_of s wires c at) (read_from s wires (k - 1))
+  module _ (h : head_fault s 2 7 at ≡ 0) (e : get_or s at 0 ≡ 7 → ⊥) where
+    pub turn_refused : (r : Refusal) → number_of r ≡ entry_fault s wires c (get_or s at 0) (field_end s at) at → Err (fault (number_of r) at) ≡ turn_of s wires c at
+    unfolding turn_of field_fault entry_fault counts_after
+    turn_refused r q = simp (h, ne_eqb _ _ e) (turn_told r _ q)
+
+    pub turn_go : 0 ≡ entry_fault s wires c (get_or s at 0) (field_end s at) at → Ok (Some (record { at = field_end s at; counts = counts_after s c at })) ≡ turn_of s wires c at
+    unfolding turn_of turn_by field_fault entry_fault counts_after
+    turn_go q = simp (h, ne_eqb _ _ e, ← q)
+
+  pub read_step : (k : ℕ) → 0 < k → read_from s wires k c at ≡ follow wires c (read_from s wires (k - 1)) (turn_of s wires c at)
   unfolding read_from
   read_step zero h = absurd (not-suc-le-zero h)
   read_step (suc k) h = rw sub-one
 
-pub onward_go : {r : Turn} {next : ℕ} {d : Counts} (at len : ℕ) → r ≡ Go next d → Onward r at len → (at + 3 ≤ next) × ((next ≤ len) × Small d)
-onward_go at len e h = subst (λ (p : Turn). Onward p at len) e h
-
 -- where the reading stands: what is left gives the answer of the whole, with fuel enough
-pub record Stands (s : List ℕ) (wires : ℕ) (c : Counts) (at : ℕ) : Type 0 where
+pub record Stands (s : List ℕ) (wires : ℕ) (p : Place) : Type 0 where
   pub fuel : ℕ
-  pub enough : length s < at + fuel
-  pub same : read_from s wires (length s) none 5 ≡ read_from s wires fuel c at
-  pub small : Small c
-  pub inside : at ≤ length s
+  pub enough : length s < p.at + fuel
+  pub same : read_from s wires (length s) none 5 ≡ read_from s wires fuel p.counts p.at
+  pub small : Small p.counts
+  pub inside : p.at ≤ length s
 
-module _ {s : List ℕ} {wires : ℕ} {c : Counts} {at : ℕ} (st : Stands s wires c at) where
-  pub stands_turn : read_from s wires (length s) none 5 ≡ follow (turn_of s wires c at) (read_from s wires (st.fuel - 1))
-  stands_turn = st.same ∙ read_step s wires c at st.fuel (omega (arith, st.enough, st.inside))
+module _ {s : List ℕ} {wires : ℕ} {p : Place} (st : Stands s wires p) where
+  stands_turn : read_from s wires (length s) none 5 ≡ follow wires p.counts (read_from s wires (st.fuel - 1)) (turn_of s wires p.counts p.at)
+  stands_turn = st.same ∙ read_step s wires p.counts p.at st.fuel (omega (arith, st.enough, st.inside))
 
-  pub stands_stop : (a : Read) → turn_of s wires c at ≡ Stop a → a ≡ read_from s wires (length s) none 5
-  stands_stop a e = sym (rw e at stands_turn)
+  pub stands_stop : (f : Fault) → Err f ≡ turn_of s wires p.counts p.at → Err f ≡ read_from s wires (length s) none 5
+  stands_stop f e = sym (rw (← e) at stands_turn)
 
-  pub stands_go : (next : ℕ) (d : Counts) → turn_of s wires c at ≡ Go next d → (at + 3 ≤ next) × ((next ≤ length s) × Small d) → Stands s wires d next
-  stands_go next d e h = record {
+  pub stands_end : Ok None ≡ turn_of s wires p.counts p.at → read_from s wires (length s) none 5 ≡ follow wires p.counts (read_from s wires (st.fuel - 1)) (Ok None)
+  stands_end e = rw (← e) at stands_turn
+
+  pub stands_go : (q : Place) → Ok (Some q) ≡ turn_of s wires p.counts p.at → (p.at + 3 ≤ q.at) × ((q.at ≤ length s) × Small q.counts) → Stands s wires q
+  stands_go q e h = record {
     fuel = st.fuel - 1;
     enough = omega (arith, st.enough, st.inside);
-    same = rw e at stands_turn;
+    same = rw (← e) at stands_turn;
     small = h.1.1;
     inside = h.1.0;
   }
 
--- ---- the or_else field, and the whole file
+-- ---- the first field, and the whole file
 module _ (s : List ℕ) where
-  shut_scan : (f tag end number rest : ℕ) → head_of f tag end ≡ Shut number → Refused number 0 ≡ read_by (or_else f rest) s
-  unfolding head_of
-  shut_scan zero tag end number rest e = cc
-  shut_scan (suc f) tag end number rest e =
-      let h : number ≡ suc f = cc in
-      rw h
+  pub wires_shut : (r : Refusal) → number_of r ≡ head_fault s 1 1 0 → number_of r ≡ wires_fault s
+  unfolding wires_fault
+  wires_shut r e = first_told r _ e
 
-  pub scan_shut : (tag end number : ℕ) → head_of (head_fault s 1 1 0) tag end ≡ Shut number → Refused number 0 ≡ read_of s
-  unfolding read_of wires_fault
-  scan_shut tag end number e = shut_scan (head_fault s 1 1 0) tag end number _ e
+  module _ (h : 0 ≡ head_fault s 1 1 0) where
+    pub wires_shape : (u16_at s 1 ≡ 2 → ⊥) → 3 ≡ wires_fault s
+    unfolding wires_fault
+    wires_shape e = simp (← h, ne_eqb _ _ e)
 
-  pub scan_shape : head_fault s 1 1 0 ≡ 0 → (u16_at s 1 ≡ 2 → ⊥) → Refused 3 0 ≡ read_of s
-  unfolding read_of wires_fault
-  scan_shape h e = simp (h, ne_eqb _ _ e)
+    module _ (e : u16_at s 1 ≡ 2) where
+      pub wires_zero : u16_at s 3 ≡ 0 → 6 ≡ wires_fault s
+      unfolding wires_fault
+      wires_zero k = simp (← h, eq-eqb _ _ e, eq-eqb _ _ k)
 
-  pub scan_zero : head_fault s 1 1 0 ≡ 0 → u16_at s 1 ≡ 2 → u16_at s 3 ≡ 0 → Refused 6 0 ≡ read_of s
-  unfolding read_of wires_fault
-  scan_zero h e k = simp (h, eq-eqb _ _ e, eq-eqb _ _ k)
+      pub wires_over : (u16_at s 3 ≡ 0 → ⊥) → 4096 < u16_at s 3 → 6 ≡ wires_fault s
+      unfolding wires_fault
+      wires_over k l = simp (← h, eq-eqb _ _ e, ne_eqb _ _ k, lt-ltb _ _ l)
 
-  pub scan_over : head_fault s 1 1 0 ≡ 0 → u16_at s 1 ≡ 2 → (u16_at s 3 ≡ 0 → ⊥) → 4096 < u16_at s 3 → Refused 6 0 ≡ read_of s
-  unfolding read_of wires_fault
-  scan_over h e k l = simp (h, eq-eqb _ _ e, ne_eqb _ _ k, lt-ltb _ _ l)
+      pub wires_fine : (u16_at s 3 ≡ 0 → ⊥) → u16_at s 3 ≤ 4096 → 0 ≡ wires_fault s
+      unfolding wires_fault
+      wires_fine k l = simp (← h, eq-eqb _ _ e, ne_eqb _ _ k, le-ltb _ _ l)
 
-  pub scan_in : head_fault s 1 1 0 ≡ 0 → u16_at s 1 ≡ 2 → (u16_at s 3 ≡ 0 → ⊥) → u16_at s 3 ≤ 4096 → read_of s ≡ read_from s (u16_at s 3) (length s) none 5
-  unfolding read_of wires_fault
-  scan_in h e k l = simp (h, eq-eqb _ _ e, ne_eqb _ _ k, le-ltb _ _ l)
+  read_told : (r : Refusal) (f : ℕ) → number_of r ≡ f → Err (fault (number_of r) 0) ≡ read_by f s
+  read_told r zero e = absurd (omega (arith, number_above r))
+  read_told r (suc f) e = rw e
+
+  pub scan_shut : (r : Refusal) → number_of r ≡ wires_fault s → Err (fault (number_of r) 0) ≡ read_of s
+  unfolding read_of
+  scan_shut r e = read_told r _ e
+
+  pub scan_in : 0 ≡ wires_fault s → read_from s (u16_at s 3) (length s) none 5 ≡ read_of s
+  unfolding read_of
+  scan_in e = rw (← e)

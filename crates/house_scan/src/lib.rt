@@ -2,217 +2,144 @@
 // nothing.
 #![tactic(auto)]
 
-ghost use Rattle.std.specs.Prelude.{◌≡◌, ◌+◌, ◌*◌, ◌^◌, ◌<◌, ◌≤◌, length, get_or};
+ghost use Rattle.std.specs.Prelude.{◌≡◌, ◌+◌, ◌*◌, ◌^◌, ◌<◌, ◌≤◌, length, get_or, IfOk, OnOk};
+ghost use Rattle.refusal.specs.Refusals.{fault_in};
 ghost use Rattle.lower.specs.Faults.{first_fault, term_fault};
 ghost use Rattle.house_file.specs.Format.{arity};
-ghost use Rattle.house_file.specs.Decoding.{u16_at, term_at, terms_at, operand_next, operands_next_lem, operands_terms, field_end, operands_start};
-ghost use Rattle.house_file.specs.Reading.{head_fault, operand_fault, operands_fault, destination_fault, payload_fault, one_if, counted, full_fault, Small, turn_of, read_from, none, read_of, sizes_of};
-ghost use Rattle.house_scan.specs.Parts.{part_of, head_of, closing_of, entry_of, Within, Ends, Onward};
+ghost use Rattle.house_file.specs.Decoding.{u16_at, term_at, terms_at, operand_next, operands_next, operands_terms, field_end, operands_start};
+ghost use Rattle.house_file.specs.Reading.{head_fault, operand_fault, operands_fault, destination_fault, payload_fault, one_if, counted, full_fault, Small, turn_of, read_from, none, wires_fault, read_of, sizes_of, by_number};
+ghost use Rattle.house_scan.specs.Parts.{end_fault, entry_fault, PartIs, HeadIs, StartIs, TermsAre, CountsAre, WiresAre, Onward};
 
-use house_file::{Counts, Read, Turn, arity_of, byte, num};
+use house_file::{Counts, FileFault, FileRead, Place, arity_of, at_field, byte, num};
 use lower::Sizes;
-use shift::{Found, Shift};
+use refusal::Refusal;
+use shift::Shift;
 
-// A part of a field: where the next one starts and how many terms it had, or the fault with its field's offset.
-#[derive(Clone, Copy)]
-pub enum Part {
-    Fine { next: usize, terms: usize },
-    Bad { number: u8, at: usize },
+// A part of a field that is sound: where the next one starts, and how many terms it had.
+#[derive(Clone, Copy, Debug, PartialEq, Eq)]
+struct Part {
+    next: usize,
+    terms: usize,
 }
 
-// A field's tag and the offset after it, or a fault.
-#[derive(Clone, Copy)]
-pub enum Head {
-    Open { tag: usize, end: usize },
-    Shut { number: u8 },
+// A field's tag, and the offset after the field.
+#[derive(Clone, Copy, Debug, PartialEq, Eq)]
+struct Head {
+    tag: usize,
+    end: usize,
 }
 
 // One term: its wire, its inner and its outer shift.
-fn term(s: &[u8], wires: usize, at: usize, field: usize) -> Part
+fn term(s: &[u8], wires: usize, at: usize) -> Result<(), Refusal>
     requires { at + 6 < 2 ^ 63 }
-    ensures { result ≡ part_of (term_fault wires (term_at s.now at)) (at + 6) 1 field }
+    ensures { fault_in result ≡ term_fault wires (term_at s.now at) }
 {
     if wires <= num(s, at) {
-        return Part::Bad {
-            number: lower::WIRE,
-            at: field,
-        };
+        return Err(Refusal::Wire);
     }
-    let Found::Valid(_) = Shift::from_index(num(s, at + 2) as u64) else {
-        return Part::Bad {
-            number: lower::SHIFT,
-            at: field,
-        };
-    };
-    let Found::Valid(_) = Shift::from_index(num(s, at + 4) as u64) else {
-        return Part::Bad {
-            number: lower::SHIFT,
-            at: field,
-        };
-    };
-    Part::Fine {
-        next: at + 6,
-        terms: 1,
-    }
+    Shift::from_index(num(s, at + 2) as u64)?;
+    Shift::from_index(num(s, at + 4) as u64)?;
+    Ok(())
 }
 
-fn terms(s: &[u8], wires: usize, n: usize, at: usize, field: usize) -> Part
+fn terms(s: &[u8], wires: usize, n: usize, at: usize) -> Result<(), Refusal>
     requires { at + 6 * n < 2 ^ 63 }
-    ensures { result ≡ part_of (first_fault (term_fault wires) (terms_at s.now n at)) (at + 6 * n) n field }
+    ensures { fault_in result ≡ first_fault (term_fault wires) (terms_at s.now n at) }
 {
-    let mut left = n;
-    let mut p = at;
-    while 0 < left {
-        match term(s, wires, p, field) {
-            Part::Fine { next, terms: _ } => {
-                p = next;
-            }
-            Part::Bad { number, at } => {
-                return Part::Bad {
-                    number: number,
-                    at: at,
-                };
-            }
-        }
-        left = left - 1;
+    for i in 0..n {
+        term(s, wires, at + 6 * i)?;
     }
-    Part::Fine { next: p, terms: n }
+    Ok(())
 }
 
 // An operand in the bytes below `end`.
-fn operand(s: &[u8], wires: usize, end: usize, at: usize, field: usize) -> Part
+fn operand(s: &[u8], wires: usize, end: usize, at: usize) -> Result<Part, Refusal>
     requires { (end < 2 ^ 63) × (at ≤ end) }
-    ensures { (result ≡ part_of (operand_fault s.now wires end at) (operand_next s.now at) (u16_at s.now at) field) × Within result at end }
+    ensures fault { fault_in result ≡ operand_fault s.now wires end at }
+    ensures part { IfOk result (PartIs at end (operand_next s.now at) (u16_at s.now at)) }
 {
     if end < at + 2 {
-        return Part::Bad {
-            number: lower::SHAPE,
-            at: field,
-        };
+        return Err(Refusal::Shape);
     }
     let n = num(s, at);
-    if end < at + 2 + 6 * n {
-        return Part::Bad {
-            number: lower::SHAPE,
-            at: field,
+    let next = at + 2 + 6 * n;
+    if end < next {
+        return Err(Refusal::Shape);
+    }
+    terms(s, wires, n, at + 2)?;
+    Ok(Part { next, terms: n })
+}
+
+// `k` operands.
+fn operands(s: &[u8], wires: usize, end: usize, k: usize, at: usize) -> Result<Part, Refusal>
+    requires { (end < 2 ^ 63) × (at ≤ end) }
+    ensures fault { fault_in result ≡ operands_fault s.now wires end k at }
+    ensures part { IfOk result (PartIs at end (operands_next s.now k at) (operands_terms s.now k at)) }
+{
+    let mut all = Part { next: at, terms: 0 };
+    for _ in 0..k {
+        let one = operand(s, wires, end, all.next)?;
+        all = Part {
+            next: one.next,
+            terms: all.terms + one.terms,
         };
     }
-    terms(s, wires, n, at + 2, field)
+    Ok(all)
 }
 
-fn operands(s: &[u8], wires: usize, end: usize, k: usize, at: usize, field: usize) -> Part
+// A Linear's destination. Where its operand starts; of another tag, the start of the payload.
+fn dest(s: &[u8], wires: usize, tag: usize, end: usize, at: usize) -> Result<usize, Refusal>
     requires { (end < 2 ^ 63) × (at ≤ end) }
-    ensures { (result ≡ part_of (operands_fault s.now wires end k at) (operands_next_lem s.now k at) (operands_terms s.now k at) field) × Within result at end }
+    ensures fault { fault_in result ≡ destination_fault s.now wires tag end at }
+    ensures start { IfOk result (StartIs at end (operands_start tag at)) }
 {
-    let mut left = k;
-    let mut p = at;
-    let mut sum = 0;
-    while 0 < left {
-        match operand(s, wires, end, p, field) {
-            Part::Fine { next, terms } => {
-                p = next;
-                sum = sum + terms;
-            }
-            Part::Bad { number, at } => {
-                return Part::Bad {
-                    number: number,
-                    at: at,
-                };
-            }
-        }
-        left = left - 1;
+    if tag != house_file::LINEAR {
+        return Ok(at);
     }
-    Part::Fine {
-        next: p,
-        terms: sum,
+    if end < at + 2 {
+        return Err(Refusal::Shape);
     }
+    if wires <= num(s, at) {
+        return Err(Refusal::Wire);
+    }
+    Ok(at + 2)
 }
 
-// A Linear's destination and where its operand starts; of another tag, the start of the payload.
-fn dest(s: &[u8], wires: usize, tag: usize, end: usize, at: usize, field: usize) -> Part
+// A payload from `at` to `end`: its parts in turn, and nothing left over. How many terms it has.
+fn payload(s: &[u8], wires: usize, tag: usize, end: usize, at: usize) -> Result<usize, Refusal>
     requires { (end < 2 ^ 63) × (at ≤ end) }
-    ensures { (result ≡ part_of (destination_fault s.now wires tag end at) (operands_start tag at) 0 field) × Within result at end }
+    ensures fault { fault_in result ≡ payload_fault s.now wires tag end at }
+    ensures terms { IfOk result (TermsAre at end (operands_terms s.now (arity tag) (operands_start tag at))) }
 {
-    if tag == house_file::LINEAR {
-        if end < at + 2 {
-            return Part::Bad {
-                number: lower::SHAPE,
-                at: field,
-            };
-        }
-        if wires <= num(s, at) {
-            return Part::Bad {
-                number: lower::WIRE,
-                at: field,
-            };
-        }
-        return Part::Fine {
-            next: at + 2,
-            terms: 0,
-        };
+    let start = dest(s, wires, tag, end, at)?;
+    let all = operands(s, wires, end, arity_of(tag), start)?;
+    if all.next < end {
+        return Err(Refusal::Shape);
     }
-    Part::Fine { next: at, terms: 0 }
-}
-
-// A payload from `at` to `end`: its parts in turn, and nothing left over.
-fn payload(s: &[u8], wires: usize, tag: usize, end: usize, at: usize, field: usize) -> Part
-    requires { (end < 2 ^ 63) × (at ≤ end) }
-    ensures { (result ≡ part_of (payload_fault s.now wires tag end at) end (operands_terms s.now (arity tag) (operands_start tag at)) field) × Within result at end }
-{
-    match dest(s, wires, tag, end, at, field) {
-        Part::Bad { number, at } => Part::Bad {
-            number: number,
-            at: at,
-        },
-        Part::Fine { next, terms: _ } => match operands(s, wires, end, arity_of(tag), next, field) {
-            Part::Bad { number, at } => Part::Bad {
-                number: number,
-                at: at,
-            },
-            Part::Fine { next, terms } => {
-                if next < end {
-                    return Part::Bad {
-                        number: lower::SHAPE,
-                        at: field,
-                    };
-                }
-                Part::Fine {
-                    next: end,
-                    terms: terms,
-                }
-            }
-        },
-    }
+    Ok(all.terms)
 }
 
 // The tag part of a field, with a tag from `low` to `high`, and the end of its payload.
-fn header(s: &[u8], low: usize, high: usize, at: usize) -> Head
+fn header(s: &[u8], low: usize, high: usize, at: usize) -> Result<Head, Refusal>
     requires { at ≤ length s.now }
-    ensures { (result ≡ head_of (head_fault s.now low high at) (get_or s.now at 0) (field_end s.now at)) × Ends result at (length s.now) }
+    ensures fault { fault_in result ≡ head_fault s.now low high at }
+    ensures head { IfOk result (HeadIs at (length s.now) (get_or s.now at 0) (field_end s.now at)) }
 {
     if s.len() < at + 3 {
-        return Head::Shut {
-            number: house_file::CUT,
-        };
+        return Err(Refusal::Cut);
     }
     let tag = byte(s, at);
     if tag < low {
-        return Head::Shut {
-            number: house_file::TAG,
-        };
+        return Err(Refusal::Tag);
     }
     if high < tag {
-        return Head::Shut {
-            number: house_file::TAG,
-        };
+        return Err(Refusal::Tag);
     }
     let end = at + 3 + num(s, at + 1);
     if s.len() < end {
-        return Head::Shut {
-            number: house_file::CUT,
-        };
+        return Err(Refusal::Cut);
     }
-    Head::Open { tag: tag, end: end }
+    Ok(Head { tag, end })
 }
 
 fn one_if(tag: usize, kind: usize) -> usize
@@ -236,28 +163,28 @@ fn tally(c: Counts, tag: usize, terms: usize) -> Counts
     }
 }
 
-// 6 FULL, or 0.
-fn full(c: Counts) -> u8
+fn full(c: Counts) -> Result<(), Refusal>
     requires { c.ands + c.imuls + c.bmuls + c.zeros < 2 ^ 62 }
-    ensures { (result ≡ full_fault c) × (result ≡ 0 → Small c) }
+    ensures fault { fault_in result ≡ full_fault c }
+    ensures small { OnOk result (Small c) }
 {
     if lower::MAX_DEFINITIONS < c.linears {
-        return lower::FULL;
+        return Err(Refusal::Full);
     }
     if lower::MAX_OTHERS < c.ands + c.imuls + c.bmuls + c.zeros {
-        return lower::FULL;
+        return Err(Refusal::Full);
     }
     if lower::MAX_TERMS < c.terms as u64 {
-        return lower::FULL;
+        return Err(Refusal::Full);
     }
-    0
+    Ok(())
 }
 
 fn sizes(wires: usize, c: Counts) -> Sizes
     ensures { result ≡ sizes_of wires c }
 {
     Sizes {
-        wires: wires,
+        wires,
         ands: c.ands,
         imuls: c.imuls,
         bmuls: c.bmuls,
@@ -266,127 +193,107 @@ fn sizes(wires: usize, c: Counts) -> Sizes
     }
 }
 
-// The end field, which has no payload, and nothing after it.
-fn closing(s: &[u8], wires: usize, c: Counts, end: usize, at: usize) -> Read
+// The end field at `at`, which has no payload, and nothing after it.
+fn closing(s: &[u8], end: usize, at: usize) -> Result<(), FileFault>
     requires { (end ≡ field_end s.now at) × (end ≤ length s.now) }
-    ensures { result ≡ closing_of s.now wires c at }
+    ensures { by_number result ≡ end_fault s.now at }
 {
-    if at + 3 < end {
-        return Read::Refused {
-            number: lower::SHAPE,
-            at: at,
-        };
+    let after = at + 3;
+    if after < end {
+        return Err(FileFault {
+            refusal: Refusal::Shape,
+            at,
+        });
     }
-    if at + 3 < s.len() {
-        return Read::Refused {
-            number: lower::SHAPE,
-            at: at + 3,
-        };
+    if after < s.len() {
+        return Err(FileFault {
+            refusal: Refusal::Shape,
+            at: after,
+        });
     }
-    let terms = c.terms;
-    Read::Done {
-        sizes: sizes(wires, c),
-        terms: terms,
-    }
+    Ok(())
 }
 
-// A field of a tag from 2 to 6.
-fn entry(s: &[u8], wires: usize, c: Counts, tag: usize, end: usize, at: usize) -> Turn
-    requires { Small c × ((at + 3 ≤ end) × (end ≤ length s.now)) }
-    ensures { (result ≡ entry_of s.now wires c tag end at) × Onward result at (length s.now) }
+// A field of a tag from 2 to 6. The counts with it.
+fn entry(s: &[u8], wires: usize, c: Counts, head: Head, at: usize) -> Result<Counts, Refusal>
+    requires { Small c × ((at + 3 ≤ head.end) × (head.end ≤ length s.now)) }
+    ensures fault { fault_in result ≡ entry_fault s.now wires c head.tag head.end at }
+    ensures counts { IfOk result (CountsAre s.now c head.tag at) }
 {
-    match payload(s, wires, tag, end, at + 3, at) {
-        Part::Bad { number, at } => Turn::Stop(Read::Refused {
-            number: number,
-            at: at,
-        }),
-        Part::Fine { next: _, terms } => {
-            let d = tally(c, tag, terms);
-            let f = full(d);
-            if 0 < f {
-                return Turn::Stop(Read::Refused { number: f, at: at });
-            }
-            Turn::Go { at: end, counts: d }
-        }
-    }
+    let terms = payload(s, wires, head.tag, head.end, at + 3)?;
+    let counts = tally(c, head.tag, terms);
+    full(counts)?;
+    Ok(counts)
 }
 
-// One field after the first.
-fn one_field(s: &[u8], wires: usize, c: Counts, at: usize) -> Turn
-    requires { Small c × (at ≤ length s.now) }
-    ensures { (result ≡ turn_of s.now wires c at) × Onward result at (length s.now) }
+// One field after the first. The place of the next, if it is not the end.
+fn one_field(s: &[u8], wires: usize, place: Place) -> Result<Option<Place>, FileFault>
+    requires { Small place.counts × (place.at ≤ length s.now) }
+    ensures turn { by_number result ≡ turn_of s.now wires place.counts place.at }
+    ensures onward { IfOk result (Onward place.at (length s.now)) }
 {
-    match header(s, 2, house_file::END, at) {
-        Head::Shut { number } => Turn::Stop(Read::Refused {
-            number: number,
-            at: at,
-        }),
-        Head::Open { tag, end } => {
-            if tag == house_file::END {
-                return Turn::Stop(closing(s, wires, c, end, at));
-            }
-            entry(s, wires, c, tag, end, at)
-        }
+    let at = place.at;
+    let head = at_field(header(s, 2, house_file::END, at), at)?;
+    if head.tag == house_file::END {
+        closing(s, head.end, at)?;
+        return Ok(None);
     }
+    let counts = at_field(entry(s, wires, place.counts, head, at), at)?;
+    Ok(Some(Place {
+        at: head.end,
+        counts,
+    }))
 }
 
 // The fields after the first.
-fn fields(s: &[u8], wires: usize) -> Read
+fn fields(s: &[u8], wires: usize) -> Result<FileRead, FileFault>
     requires { 5 ≤ length s.now }
-    ensures { result ≡ read_from s.now wires (length s.now) none 5 }
+    ensures { by_number result ≡ read_from s.now wires (length s.now) none 5 }
 {
-    let mut c = Counts {
-        ands: 0,
-        imuls: 0,
-        bmuls: 0,
-        zeros: 0,
-        linears: 0,
-        terms: 0,
+    let mut place = Place {
+        at: 5,
+        counts: Counts {
+            ands: 0,
+            imuls: 0,
+            bmuls: 0,
+            zeros: 0,
+            linears: 0,
+            terms: 0,
+        },
     };
-    let mut at = 5;
-    loop {
-        match one_field(s, wires, c, at) {
-            Turn::Stop(a) => {
-                return a;
-            }
-            Turn::Go { at: next, counts } => {
-                at = next;
-                c = counts;
-            }
-        }
+    while let Some(next) = one_field(s, wires, place)? {
+        place = next;
     }
+    let counts = place.counts;
+    Ok(FileRead {
+        sizes: sizes(wires, counts),
+        terms: counts.terms,
+    })
+}
+
+// The first field: how many wires there are.
+fn wire_count(s: &[u8]) -> Result<usize, Refusal>
+    ensures fault { fault_in result ≡ wires_fault s.now }
+    ensures wires { IfOk result (WiresAre s.now) }
+{
+    let head = header(s, 1, 1, 0)?;
+    if head.end != 5 {
+        return Err(Refusal::Shape);
+    }
+    let wires = num(s, 3);
+    if wires == 0 {
+        return Err(Refusal::Full);
+    }
+    if lower::MAX_WIRES < wires {
+        return Err(Refusal::Full);
+    }
+    Ok(wires)
 }
 
 // The whole file.
-pub fn scan(s: &[u8]) -> Read
-    ensures { result ≡ read_of s.now }
+pub fn scan(s: &[u8]) -> Result<FileRead, FileFault>
+    ensures { by_number result ≡ read_of s.now }
 {
-    match header(s, 1, 1, 0) {
-        Head::Shut { number } => Read::Refused {
-            number: number,
-            at: 0,
-        },
-        Head::Open { tag: _, end } => {
-            if end != 5 {
-                return Read::Refused {
-                    number: lower::SHAPE,
-                    at: 0,
-                };
-            }
-            let wires = num(s, 3);
-            if wires == 0 {
-                return Read::Refused {
-                    number: lower::FULL,
-                    at: 0,
-                };
-            }
-            if lower::MAX_WIRES < wires {
-                return Read::Refused {
-                    number: lower::FULL,
-                    at: 0,
-                };
-            }
-            fields(s, wires)
-        }
-    }
+    let wires = at_field(wire_count(s), 0)?;
+    fields(s, wires)
 }

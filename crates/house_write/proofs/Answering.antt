@@ -14,8 +14,11 @@ use Rattle.lower.specs.Faults.{memory_fault}
 use Rattle.lower.proofs.Firsts.{else_some, else_first, else_second, unless_holds}
 use Rattle.house_file.specs.Format.{entries_of, file_of, file_size}
 use Rattle.house_file.specs.Reading.{ROOM, WIDE}
-use Rattle.house_write.specs.Write.{MAX_WRITTEN_TERMS, wide, wide_fault, write_fault, written_by, bytes_by, numbered, WriteIs}
-use Rattle.house_write.specs.declared.Written.TheVariants.{Done, Refused}
+use Rattle.house_write.specs.Write.{MAX_WRITTEN_TERMS, wide, wide_fault, write_fault, bytes_by, numbered, WriteIs}
+use Rattle.std.specs.Prelude.{Ok, Err}
+use Rattle.refusal.specs.declared.Refusal.{Refusal}
+use Rattle.refusal.specs.Refusals.{number_of}
+use Rattle.house_file.proofs.Faults.{number_above}
 use Rattle.house_write.proofs.Storing.{file_length}
 
 module _ (z : Sizes) (s : Stores) (room : ℕ) where
@@ -58,21 +61,17 @@ module _ (z : Sizes) (s : Stores) (room : ℕ) where
         let f = else_second (memory_fault MAX_WRITTEN_TERMS z s) _ e in
         leb-true _ _ (unless_holds (leb (file_size (entries_of (system_of z s))) room) ROOM (omega arith) (else_second (wide_fault (system_of z s)) _ f))
 
-module _ (z : Sizes) (s : Stores) (out : List ℕ) (f : ℕ) (e : f ≡ write_fault z s (length out)) where
-  pub write_refused : (f ≡ 0 → ⊥) → WriteIs z s out (Refused f) out
-  unfolding written_by bytes_by numbered
-  write_refused h = go f e h
+module _ (z : Sizes) (s : Stores) (out : List ℕ) where
+  pub write_refused : (r : Refusal) → number_of r ≡ write_fault z s (length out) → WriteIs z s out (Err r) out
+  unfolding bytes_by numbered
+  write_refused r e = by (write_fault z s (length out)) refl e
     where
-      by : (f : ℕ) → write_fault z s (length out) ≡ suc f → WriteIs z s out (Refused (suc f)) out
-      by f e = record { answer = rw e refl; tells = rw e refl; bytes_are = rw e refl }
+      by : (f : ℕ) → write_fault z s (length out) ≡ f → number_of r ≡ f → WriteIs z s out (Err r) out
+      by zero h e = absurd (omega (arith, number_above r))
+      by (suc f) h e = record { answer = e ∙ sym h; length_is = tt; tells = rw (h, e) refl; bytes_are = rw h refl }
 
-      go : (f : ℕ) → f ≡ write_fault z s (length out) → (f ≡ 0 → ⊥) → WriteIs z s out (Refused f) out
-      go zero e h = absurd (h refl)
-      go (suc f) e h = by f (sym e)
-
-  pub write_done : f ≡ 0 → (n : ℕ) (out' : List ℕ) → n ≡ length (file_of (system_of z s)) → out' ≡ sets out 0 (file_of (system_of z s)) → WriteIs z s out (Done n) out'
-  unfolding written_by bytes_by numbered
+  pub write_done : 0 ≡ write_fault z s (length out) → (n : ℕ) (out' : List ℕ) → n ≡ length (file_of (system_of z s)) → out' ≡ sets out 0 (file_of (system_of z s)) → WriteIs z s out (Ok n) out'
+  unfolding bytes_by numbered
   write_done h n out' a b =
-      let k : write_fault z s (length out) ≡ 0 = sym e ∙ h in
       let m : n ≡ file_size (entries_of (system_of z s)) = a ∙ file_length (system_of z s) in
-      record { answer = rw (k, m) refl; tells = rw (k, m) refl; bytes_are = rw k b }
+      record { answer = h; length_is = m; tells = rw (← h, m) refl; bytes_are = rw (← h) b }

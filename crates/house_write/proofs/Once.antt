@@ -1,7 +1,7 @@
 -- A write that is done has put the whole file at the front; the contract of `write` has one answer. Assumes nothing.
 use mathlib.Core.Path.{◌≡◌, refl, sym, ap, ◌∙◌}
 use mathlib.Core.List.{List, ◌++◌}
-use Prim.Native.Nat.{ℕ, zero, suc, ◌+◌, ◌≤◌}
+use Prim.Native.Nat.{ℕ, ◌+◌, ◌≤◌}
 use native.Mathlib.Nat.{zero-add}
 use native.Mathlib.Omega.{arith}
 use lib.ListN.{length, take, drop}
@@ -9,9 +9,10 @@ use lib.Seq.{sets, sets-eq, take_at, drop_at}
 use Rattle.lower.specs.declared.Sizes.{Sizes}
 use Rattle.lower.specs.Stores.{Stores, system_of}
 use Rattle.house_file.specs.Format.{entries_of, file_of, file_size}
-use Rattle.house_write.specs.Write.{write_fault, written_by, bytes_by, WriteIs}
-use Rattle.house_write.specs.declared.Written.{Written}
-use Rattle.house_write.specs.declared.Written.TheVariants.{Done}
+use Rattle.house_write.specs.Write.{write_fault, bytes_by, WriteIs}
+use Rattle.std.specs.Prelude.{Result, Ok, Err}
+use Rattle.refusal.specs.declared.Refusal.{Refusal}
+use Rattle.house_file.proofs.Faults.{number_above, refusal_once}
 use Rattle.house_write.proofs.Storing.{file_length}
 use Rattle.house_write.proofs.Answering.{none_room}
 
@@ -22,26 +23,28 @@ pub record IsWritten (z : Sizes) (s : Stores) (out : List ℕ) (n : ℕ) (out' :
   pub rest_is : drop n out' ≡ drop n out
 
 module _ {z : Sizes} {s : Stores} {out out' : List ℕ} {n : ℕ} where
-  pub is_written : WriteIs z s out (Done n) out' → IsWritten z s out n out'
-  unfolding written_by bytes_by
+  pub is_written : WriteIs z s out (Ok n) out' → IsWritten z s out n out'
+  unfolding bytes_by
   is_written w =
       let p = system_of z s in
-      let g = none (write_fault z s (length out)) (file_size (entries_of p)) w.answer in
-      let l : n ≡ length (file_of p) = g.1 ∙ sym (file_length p) in
-      let fits : 0 + length (file_of p) ≤ length out = omega (arith, none_room z s (length out) g.0, file_length p) in
+      let g = sym w.answer in
+      let l : n ≡ length (file_of p) = w.length_is ∙ sym (file_length p) in
+      let fits : 0 + length (file_of p) ≤ length out = omega (arith, none_room z s (length out) g, file_length p) in
       let e : out' ≡ file_of p ++ drop (length (file_of p)) out =
-      w.bytes_are ∙ ap (λ (f : ℕ). sets out 0 (bytes_by f (file_of p))) g.0 ∙ sets-eq (file_of p) out 0 fits ∙ ap (λ (k : ℕ). file_of p ++ drop k out) (zero-add (length (file_of p))) in
+      w.bytes_are ∙ ap (λ (f : ℕ). sets out 0 (bytes_by f (file_of p))) g ∙ sets-eq (file_of p) out 0 fits ∙ ap (λ (k : ℕ). file_of p ++ drop k out) (zero-add (length (file_of p))) in
       record {
-        no_fault = g.0;
+        no_fault = g;
         length-is = l;
         file_is = ap (take n) e ∙ take_at (file_of p) (drop (length (file_of p)) out) n (sym l);
         rest_is = ap (drop n) e ∙ drop_at (file_of p) (drop (length (file_of p)) out) n (sym l) ∙ ap (λ (k : ℕ). drop k out) (sym l);
       }
-    where
-      none : (f m : ℕ) → Done n ≡ written_by f m → (f ≡ 0) × (n ≡ m)
-      none zero m e = (refl, cc)
-      none (suc f) m e = absurd (let h : ◌≡◌ {A = ℕ} 0 1 = cc in omega arith)
 
 -- no second answer satisfies the contract
-pub write_once : (z : Sizes) (s : Stores) (out : List ℕ) (r r₂ : Written) (o o₂ : List ℕ) → WriteIs z s out r o → WriteIs z s out r₂ o₂ → (r ≡ r₂) × (o ≡ o₂)
-write_once z s out r r₂ o o₂ x y = (x.answer ∙ sym y.answer, x.bytes_are ∙ sym y.bytes_are)
+pub write_once : (z : Sizes) (s : Stores) (out : List ℕ) (r r₂ : Result ℕ Refusal) (o o₂ : List ℕ) → WriteIs z s out r o → WriteIs z s out r₂ o₂ → (r ≡ r₂) × (o ≡ o₂)
+write_once z s out r r₂ o o₂ x y = (same r r₂ x y, x.bytes_are ∙ sym y.bytes_are)
+  where
+    same : (r r₂ : Result ℕ Refusal) → WriteIs z s out r o → WriteIs z s out r₂ o₂ → r ≡ r₂
+    same (Ok n) (Ok m) x y = ap Ok (x.length_is ∙ sym y.length_is)
+    same (Ok n) (Err q) x y = absurd (omega (arith, x.answer, y.answer, number_above q))
+    same (Err q) (Ok n) x y = absurd (omega (arith, x.answer, y.answer, number_above q))
+    same (Err q) (Err t) x y = ap Err (refusal_once q t (x.answer ∙ sym y.answer))

@@ -14,12 +14,12 @@ use Rattle.lower.specs.Lists.{All, done, more, sum_of, some_of}
 use Rattle.lower.specs.Model.{Definition, System}
 use Rattle.lower.specs.Stores.{rows_of, definitions_of, Stands}
 use Rattle.lower.specs.Faults.{length_of}
-use Rattle.lower.proofs.Firsts.{drop_step, part_step, part_end}
+use Rattle.lower.proofs.Firsts.{drop_step}
 use Rattle.lower.proofs.Somes.{neither}
 use Rattle.house_file.specs.Format.{le16, term_bytes, terms_bytes, operand_bytes, operands_bytes, operand_size, LINEAR, payload_bytes, Entry, row_entry, linear_entry, entry_bytes, list_bytes, file_bytes, entries_of, file_of, file_size}
 use Rattle.house_file.proofs.Sizes.{terms_size, operands_size, file_size_lem}
 use Rattle.house_write.specs.Sizes.{handle_size, handles_size, is_wide, MAX_PAYLOAD, definitions_wide, Ready}
-use Rattle.house_write.proofs.Counting.{take_step, chunks_step}
+use Rattle.house_write.proofs.Counting.{chunks_step}
 
 pub sets-append : (l : List ℕ) (i : ℕ) (xs ys : List ℕ) → sets l i (xs ++ ys) ≡ sets (sets l i xs) (i + length xs) ys
 sets-append l i [] ys = ap (λ (k : ℕ). sets l k ys) (sym (add-zero i))
@@ -74,18 +74,18 @@ module _ (old new : List ℕ) (h : ℕ) (p : Stands old new h) where
   pub operand_bytes_lem : length (operand_bytes (operand_of old new h)) ≡ handle_size h
   operand_bytes_lem = omega (arith, terms_size (operand_of old new h), operand_terms)
 
-module _ (f : ℕ → Operand) (hs : List ℕ) (n a : ℕ) (h : 0 < n) (p : a + n ≤ length hs) where
-  pub sets_operands : (l : List ℕ) (q r : ℕ) → q + length (operand_bytes (f (get_or hs a 0))) ≡ r
-      → sets l q (operands_bytes (map f (take n (drop a hs)))) ≡ sets (sets l q (operand_bytes (f (get_or hs a 0)))) r (operands_bytes (map f (take (n - 1) (drop (a + 1) hs))))
+module _ (f : ℕ → Operand) (hs : List ℕ) (i : ℕ) where
+  pub sets_operands : i < length hs → (l : List ℕ) (q r : ℕ) → q + length (operand_bytes (f (get_or hs i 0))) ≡ r
+      → sets l q (operands_bytes (map f (drop i hs))) ≡ sets (sets l q (operand_bytes (f (get_or hs i 0)))) r (operands_bytes (map f (drop (i + 1) hs)))
   unfolding operands_bytes
-  sets_operands l q r e =
-      ap (λ (m : List ℕ). sets l q (operands_bytes (map f m))) (take_step hs n a h p)
-      ∙ sets-append l q (operand_bytes (f (get_or hs a 0))) (operands_bytes (map f (take (n - 1) (drop (a + 1) hs))))
+  sets_operands h l q r e =
+      ap (λ (m : List ℕ). sets l q (operands_bytes (map f m))) (drop_step hs i 0 h)
+      ∙ sets-append l q (operand_bytes (f (get_or hs i 0))) (operands_bytes (map f (drop (i + 1) hs)))
       ∙ rw e
 
-pub sets_no_operands : (f : ℕ → Operand) (l : List ℕ) (q : ℕ) (hs : List ℕ) → sets l q (operands_bytes (map f (take 0 hs))) ≡ l
-unfolding operands_bytes
-sets_no_operands f l q hs = refl
+  pub sets_no_operands : length hs ≤ i → (l : List ℕ) (q : ℕ) → sets l q (operands_bytes (map f (drop i hs))) ≡ l
+  unfolding operands_bytes
+  sets_no_operands h l q = ap (λ (m : List ℕ). sets l q (operands_bytes (map f m))) (drop_of_length-le hs {i = i} h)
 
 module _ (old new : List ℕ) where
   -- bytes counted by the lengths are those of the operands
@@ -119,20 +119,21 @@ module _ (old new : List ℕ) (tag : ℕ) (hs : List ℕ) (h : tag < 6) (p : All
       ap length (row_bytes tag (map (operand_of old new) hs) h)
       ∙ omega (arith, operands_size (map (operand_of old new) hs), handles_size_lem old new hs (ready_stands old new hs p))
 
-module _ (f : ℕ → Operand) (tag k n a : ℕ) (hs : List ℕ) (h : 0 < n) where
-  rows_bytes : list_bytes (map (row_entry tag) (rows_of f k n (drop a hs)))
-      ≡ entry_bytes (row_entry tag (map f (take k (drop a hs)))) ++ list_bytes (map (row_entry tag) (rows_of f k (n - 1) (drop (a + k) hs)))
+-- the rows that are left after i of n
+module _ (f : ℕ → Operand) (tag k n i : ℕ) (hs : List ℕ) (h : i < n) where
+  rows_bytes : list_bytes (map (row_entry tag) (rows_of f k (n - i) hs))
+      ≡ entry_bytes (row_entry tag (map f (take k hs))) ++ list_bytes (map (row_entry tag) (rows_of f k (n - (i + 1)) (drop k hs)))
   unfolding list_bytes
-  rows_bytes = ap (λ (m : List (List ℕ)). list_bytes (map (row_entry tag) (map (map f) m))) (chunks_step k n a hs h)
+  rows_bytes = ap (λ (m : List (List ℕ)). list_bytes (map (row_entry tag) (map (map f) m))) (chunks_step k n i hs h)
 
-  pub sets_rows : (l : List ℕ) (q r : ℕ) → q + length (entry_bytes (row_entry tag (map f (take k (drop a hs))))) ≡ r
-      → sets l q (list_bytes (map (row_entry tag) (rows_of f k n (drop a hs))))
-      ≡ sets (sets l q (entry_bytes (row_entry tag (map f (take k (drop a hs)))))) r (list_bytes (map (row_entry tag) (rows_of f k (n - 1) (drop (a + k) hs))))
-  sets_rows l q r e = ap (sets l q) rows_bytes ∙ sets-append l q (entry_bytes (row_entry tag (map f (take k (drop a hs))))) _ ∙ rw e
+  pub sets_rows : (l : List ℕ) (q r : ℕ) → q + length (entry_bytes (row_entry tag (map f (take k hs)))) ≡ r
+      → sets l q (list_bytes (map (row_entry tag) (rows_of f k (n - i) hs)))
+      ≡ sets (sets l q (entry_bytes (row_entry tag (map f (take k hs))))) r (list_bytes (map (row_entry tag) (rows_of f k (n - (i + 1)) (drop k hs))))
+  sets_rows l q r e = ap (sets l q) rows_bytes ∙ sets-append l q (entry_bytes (row_entry tag (map f (take k hs)))) _ ∙ rw e
 
-  pub rows_size : length (list_bytes (map (row_entry tag) (rows_of f k n (drop a hs))))
-      ≡ length (entry_bytes (row_entry tag (map f (take k (drop a hs))))) + length (list_bytes (map (row_entry tag) (rows_of f k (n - 1) (drop (a + k) hs))))
-  rows_size = ap length rows_bytes ∙ length-append (entry_bytes (row_entry tag (map f (take k (drop a hs))))) _
+  pub rows_size : length (list_bytes (map (row_entry tag) (rows_of f k (n - i) hs)))
+      ≡ length (entry_bytes (row_entry tag (map f (take k hs)))) + length (list_bytes (map (row_entry tag) (rows_of f k (n - (i + 1)) (drop k hs))))
+  rows_size = ap length rows_bytes ∙ length-append (entry_bytes (row_entry tag (map f (take k hs)))) _
 
 module _ (f : ℕ → Operand) (tag k : ℕ) (hs : List ℕ) where
   pub sets_no_rows : (l : List ℕ) (q : ℕ) → sets l q (list_bytes (map (row_entry tag) (rows_of f k 0 hs))) ≡ l
@@ -170,41 +171,42 @@ module _ (d : Definition) where
       ∙ sets-append (sets l q (LINEAR ∷ le16 m)) (q + 3) (le16 d.dst) (operand_bytes d.rhs)
       ∙ rw (e₅, e)
 
-module _ (f : ℕ → Operand) (ds hs : List ℕ) (n i : ℕ) (h : i < n) (a : n ≤ length ds) (b : n ≤ length hs) where
+module _ (f : ℕ → Operand) (ds hs : List ℕ) (i : ℕ) (a : i < length ds) (b : i < length hs) where
   abbrev here : Definition
   here = record { dst = get_or ds i 0; rhs = f (get_or hs i 0) }
 
   abbrev left : List Definition
-  left = definitions_of f (drop (i + 1) (take n ds)) (drop (i + 1) (take n hs))
+  left = definitions_of f (drop (i + 1) ds) (drop (i + 1) hs)
 
-  definitions_bytes : list_bytes (map linear_entry (definitions_of f (drop i (take n ds)) (drop i (take n hs)))) ≡ entry_bytes (linear_entry here) ++ list_bytes (map linear_entry left)
+  definitions_bytes : list_bytes (map linear_entry (definitions_of f (drop i ds) (drop i hs))) ≡ entry_bytes (linear_entry here) ++ list_bytes (map linear_entry left)
   unfolding list_bytes
-  definitions_bytes = rw (part_step ds n i 0 h a, part_step hs n i 0 h b)
+  definitions_bytes = rw (drop_step ds i 0 a, drop_step hs i 0 b)
 
   pub sets_definitions : (l : List ℕ) (q r : ℕ) → q + length (entry_bytes (linear_entry here)) ≡ r
-      → sets l q (list_bytes (map linear_entry (definitions_of f (drop i (take n ds)) (drop i (take n hs)))))
+      → sets l q (list_bytes (map linear_entry (definitions_of f (drop i ds) (drop i hs))))
       ≡ sets (sets l q (entry_bytes (linear_entry here))) r (list_bytes (map linear_entry left))
   sets_definitions l q r e = ap (sets l q) definitions_bytes ∙ sets-append l q (entry_bytes (linear_entry here)) _ ∙ rw e
 
-  pub definitions_size : length (list_bytes (map linear_entry (definitions_of f (drop i (take n ds)) (drop i (take n hs)))))
+  pub definitions_size : length (list_bytes (map linear_entry (definitions_of f (drop i ds) (drop i hs))))
       ≡ length (entry_bytes (linear_entry here)) + length (list_bytes (map linear_entry left))
   definitions_size = ap length definitions_bytes ∙ length-append (entry_bytes (linear_entry here)) _
 
-  pub definitions_narrow : definitions_wide (drop i (take n hs)) ≡ false → (2 + handle_size (get_or hs i 0) ≤ MAX_PAYLOAD) × (definitions_wide (drop (i + 1) (take n hs)) ≡ false)
+module _ (hs : List ℕ) (i : ℕ) (b : i < length hs) where
+  pub definitions_narrow : definitions_wide (drop i hs) ≡ false → (2 + handle_size (get_or hs i 0) ≤ MAX_PAYLOAD) × (definitions_wide (drop (i + 1) hs) ≡ false)
   unfolding definitions_wide
   definitions_narrow e =
-      let k = neither (is_wide (2 + handle_size (get_or hs i 0))) _ (sym (ap (some_of (λ (x : ℕ). is_wide (2 + handle_size x))) (part_step hs n i 0 h b)) ∙ e) in
+      let k = neither (is_wide (2 + handle_size (get_or hs i 0))) _ (sym (ap (some_of (λ (x : ℕ). is_wide (2 + handle_size x))) (drop_step hs i 0 b)) ∙ e) in
       (ltb-false _ _ k.0, k.1)
 
-module _ (f : ℕ → Operand) (ds hs : List ℕ) (n i : ℕ) (h : n ≤ i) (a : n ≤ length ds) where
-  no_definitions : definitions_of f (drop i (take n ds)) (drop i (take n hs)) ≡ []
-  no_definitions = rw (part_end ds n i a h)
+module _ (f : ℕ → Operand) (ds hs : List ℕ) (i : ℕ) (h : length ds ≤ i) where
+  no_definitions : definitions_of f (drop i ds) (drop i hs) ≡ []
+  no_definitions = rw (drop_of_length-le ds {i = i} h)
 
-  pub sets_no_definitions : (l : List ℕ) (q : ℕ) → sets l q (list_bytes (map linear_entry (definitions_of f (drop i (take n ds)) (drop i (take n hs))))) ≡ l
+  pub sets_no_definitions : (l : List ℕ) (q : ℕ) → sets l q (list_bytes (map linear_entry (definitions_of f (drop i ds) (drop i hs)))) ≡ l
   unfolding list_bytes
   sets_no_definitions l q = rw no_definitions
 
-  pub no_definitions_size : length (list_bytes (map linear_entry (definitions_of f (drop i (take n ds)) (drop i (take n hs))))) ≡ 0
+  pub no_definitions_size : length (list_bytes (map linear_entry (definitions_of f (drop i ds) (drop i hs)))) ≡ 0
   unfolding list_bytes
   no_definitions_size = rw no_definitions
 

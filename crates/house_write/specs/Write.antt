@@ -4,12 +4,10 @@
 --   wide p             some record of the system is over 65,535 payload bytes
 --   wide_fault, room_fault    14, and 12 where so many lent bytes are too few
 --   write_fault         "writing 4, 5, 6, 14, 12", with 3 before the terms of an operand that is past the end of its store
---   written_by f n      the refusal f, or the length n where there is none
---   written_of          the answer
 --   bytes_by f bs       the bytes that are stored: none on a refusal
 --   told_written        number and values of each case; numbered, the same of a fault and values
---   WriteIs            the answer, number and values of its case, and what the lent bytes are afterwards: the file from their front on and
---                      the rest as it was; on a refusal all as it was
+--   WriteIs            the refusal or the length, number and values of its case, and what the lent bytes are afterwards: the file from
+--                      their front on and the rest as it was; on a refusal all as it was
 --
 --   Narrow p           no record of the system is over 65,535 payload bytes
 --   Explains f         what the number f says: 0, 14 and 12, each just when; 3 to 6 as the checks in memory give them
@@ -17,9 +15,11 @@
 -- `sets l i vs` is the list l with vs stored from place i on.
 --
 -- Assumes nothing.
-use Rattle.std.specs.Prelude.{◌≡◌, ◌↔◌, Bool, not, List, [], ◌∷◌, ℕ, zero, suc, ◌≤◌, ◌<◌, leb, length}
+use Rattle.std.specs.Prelude.{◌≡◌, ◌↔◌, Bool, not, List, [], ◌∷◌, ℕ, zero, suc, ◌≤◌, ◌<◌, leb, length, Result, IfOk}
 use Rattle.std.proofs.lemmas.List.Edits.{sets}
-use Rattle.word.specs.Answers.{Told, given, refused}
+use Rattle.refusal.specs.declared.Refusal.{Refusal}
+use Rattle.refusal.specs.Refusals.{fault_in}
+use Rattle.word.specs.Answers.{Told, given, refused, told_by}
 use Rattle.lower.specs.declared.Sizes.{Sizes}
 use Rattle.lower.specs.Lists.{All, some_of}
 use Rattle.lower.specs.Model.{System}
@@ -29,8 +29,6 @@ use Rattle.lower.specs.Explained.{Standing}
 use Rattle.house_file.specs.Format.{Entry, entries_of, file_of, payload_size, file_size}
 use Rattle.house_file.specs.Reading.{ROOM, WIDE}
 use Rattle.house_write.specs.Sizes.{MAX_PAYLOAD, is_wide}
-use Rattle.house_write.specs.declared.Written.{Written}
-use Rattle.house_write.specs.declared.Written.TheVariants.{Done, Refused}
 
 abbrev pub MAX_WRITTEN_TERMS : ℕ
 MAX_WRITTEN_TERMS = 24576
@@ -49,20 +47,12 @@ room_fault p room = unless (leb (file_size (entries_of p)) room) ROOM
 unfoldable pub write_fault : Sizes → Stores → ℕ → ℕ
 write_fault z s room = or_else (memory_fault MAX_WRITTEN_TERMS z s) (or_else (wide_fault (system_of z s)) (room_fault (system_of z s) room))
 
-unfoldable pub written_by : ℕ → ℕ → Written
-written_by zero n = Done n
-written_by (suc f) n = Refused (suc f)
-
-abbrev pub written_of : Sizes → Stores → ℕ → Written
-written_of z s room = written_by (write_fault z s room) (file_size (entries_of (system_of z s)))
-
 unfoldable pub bytes_by : ℕ → List ℕ → List ℕ
 bytes_by zero bs = bs
 bytes_by (suc f) bs = []
 
-abbrev pub told_written : Written → Told
-told_written (Done n) = given (n ∷ [])
-told_written (Refused number) = refused number
+abbrev pub told_written : Result ℕ Refusal → Told
+told_written = told_by (λ n. n ∷ [])
 
 unfoldable pub numbered : ℕ → List ℕ → Told
 numbered zero vs = given vs
@@ -78,7 +68,8 @@ module _ (z : Sizes) (s : Stores) (room : ℕ) where
     pub wide_is : f ≡ WIDE ↔ Standing z s MAX_WRITTEN_TERMS × (Narrow (system_of z s) → ⊥)
     pub short : f ≡ ROOM ↔ Standing z s MAX_WRITTEN_TERMS × Narrow (system_of z s) × (room < file_size (entries_of (system_of z s)))
 
-pub record WriteIs (z : Sizes) (s : Stores) (out : List ℕ) (r : Written) (out' : List ℕ) : Type 0 where
-  pub answer : r ≡ written_of z s (length out)
+pub record WriteIs (z : Sizes) (s : Stores) (out : List ℕ) (r : Result ℕ Refusal) (out' : List ℕ) : Type 0 where
+  pub answer : fault_in r ≡ write_fault z s (length out)
+  pub length_is : IfOk r (λ n. n ≡ file_size (entries_of (system_of z s)))
   pub tells : told_written r ≡ numbered (write_fault z s (length out)) (file_size (entries_of (system_of z s)) ∷ [])
   pub bytes_are : out' ≡ sets out 0 (bytes_by (write_fault z s (length out)) (file_of (system_of z s)))

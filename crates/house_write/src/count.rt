@@ -1,27 +1,22 @@
 // How many bytes the records of a system take, and whether one is too wide: 14.
-ghost use Rattle.std.specs.Prelude.{◌≡◌, ◌+◌, ◌*◌, ◌≤◌, length, take, drop};
+ghost use Rattle.std.specs.Prelude.{◌≡◌, ◌+◌, ◌*◌, ◌≤◌, length};
 ghost use Rattle.lower.specs.Accepted.{MAX_DEFINITIONS, MAX_OTHERS};
 ghost use Rattle.house_write.specs.Sizes.{handles_size, rows_wide, definitions_wide, wides_in, bytes_in, Within};
 
-use lower::Sizes;
+use lower::LentSystem;
 use operand::WireOperand;
 
 // The largest payload of a record.
-pub(crate) const MAX_PAYLOAD: usize = 65535;
+const MAX_PAYLOAD: usize = 65535;
 
-// The bytes of `n` operands of the list from place `at` on.
-pub(crate) fn operands(hs: &[u64], at: usize, n: usize) -> usize
-    requires { (n ≤ 6144) × (at + n ≤ length hs.now) }
-    ensures { (result ≡ handles_size (take n (drop at hs.now))) × (result ≤ 25769803776 * n) }
+// The bytes of the operands.
+pub(crate) fn operands(hs: &[u64]) -> usize
+    requires { length hs.now ≤ 6144 }
+    ensures { (result ≡ handles_size hs.now) × (result ≤ 25769803776 * length hs.now) }
 {
-    let mut left = n;
-    let mut a = at;
     let mut sum = 0;
-    while 0 < left {
-        let o = WireOperand::from_number(hs[a]);
-        sum = sum + 2 + 6 * o.len as usize;
-        a = a + 1;
-        left = left - 1;
+    for &h in hs {
+        sum += 2 + 6 * WireOperand::from_number(h).len();
     }
     sum
 }
@@ -31,86 +26,53 @@ fn rows_wide(hs: &[u64], k: usize, n: usize) -> bool
     requires { (k ≤ 6) × (k * n ≤ length hs.now) }
     ensures { result ≡ rows_wide k n hs.now }
 {
-    let mut left = n;
-    let mut a = 0;
-    while 0 < left {
-        if MAX_PAYLOAD < operands(hs, a, k) {
+    let mut rest = hs;
+    for _ in 0..n {
+        let (row, after) = rest.split_at(k);
+        if MAX_PAYLOAD < operands(row) {
             return true;
         }
-        a = a + k;
-        left = left - 1;
+        rest = after;
     }
     false
 }
 
-// The same of the first `n` definitions. A destination has two bytes.
-fn definitions_wide(rhss: &[u64], n: usize) -> bool
-    requires { n ≤ length rhss.now }
-    ensures { result ≡ definitions_wide (take n rhss.now) }
+// The same of the definitions with these right sides. A destination has two bytes.
+fn definitions_wide(rhss: &[u64]) -> bool
+    ensures { result ≡ definitions_wide rhss.now }
 {
-    let mut i = 0;
-    while i < n {
-        let o = WireOperand::from_number(rhss[i]);
-        if MAX_PAYLOAD < 4 + 6 * o.len as usize {
+    for &h in rhss {
+        if MAX_PAYLOAD < 4 + 6 * WireOperand::from_number(h).len() {
             return true;
         }
-        i += 1;
     }
     false
 }
 
-pub(crate) fn has_wide(
-    ands: &[u64],
-    imuls: &[u64],
-    bmuls: &[u64],
-    zeros: &[u64],
-    rhss: &[u64],
-    z: Sizes,
-) -> bool
-    requires { Within z ands.now imuls.now bmuls.now zeros.now rhss.now }
-    ensures { result ≡ wides_in z ands.now imuls.now bmuls.now zeros.now rhss.now }
+#[tactic(auto, unfolding(crate::specs::Sizes::wides_in))]
+pub(crate) fn has_wide(system: &LentSystem<'_>) -> bool
+    requires { Within system.now.sizes system.now.ands.now system.now.imuls.now system.now.bmuls.now system.now.zeros.now system.now.rhss.now }
+    ensures { result ≡ wides_in system.now.sizes system.now.ands.now system.now.imuls.now system.now.bmuls.now system.now.zeros.now system.now.rhss.now }
 {
-    let a = z.ands;
-    let i = z.imuls;
-    let b = z.bmuls;
-    let o = z.zeros;
-    let l = z.linears;
-    if rows_wide(ands, 3, a) {
-        return true;
-    }
-    if rows_wide(imuls, 4, i) {
-        return true;
-    }
-    if rows_wide(bmuls, 6, b) {
-        return true;
-    }
-    if rows_wide(zeros, 1, o) {
-        return true;
-    }
-    definitions_wide(rhss, l)
+    let z = system.sizes;
+    rows_wide(system.ands, 3, z.ands)
+        || rows_wide(system.imuls, 4, z.imuls)
+        || rows_wide(system.bmuls, 6, z.bmuls)
+        || rows_wide(system.zeros, 1, z.zeros)
+        || definitions_wide(&system.rhss[..z.linears])
 }
 
 // The whole file's.
-pub(crate) fn bytes(
-    ands: &[u64],
-    imuls: &[u64],
-    bmuls: &[u64],
-    zeros: &[u64],
-    rhss: &[u64],
-    z: Sizes,
-) -> usize
-    requires zeros_bound { (z.ands + z.imuls + z.bmuls + z.zeros ≤ MAX_OTHERS) × (z.linears ≤ MAX_DEFINITIONS) }
-    requires within { Within z ands.now imuls.now bmuls.now zeros.now rhss.now }
-    ensures { result ≡ bytes_in z ands.now imuls.now bmuls.now zeros.now rhss.now }
+#[tactic(auto, unfolding(crate::specs::Sizes::bytes_in))]
+pub(crate) fn bytes(system: &LentSystem<'_>) -> usize
+    requires counts { (system.now.sizes.ands + system.now.sizes.imuls + system.now.sizes.bmuls + system.now.sizes.zeros ≤ MAX_OTHERS) × (system.now.sizes.linears ≤ MAX_DEFINITIONS) }
+    requires within { Within system.now.sizes system.now.ands.now system.now.imuls.now system.now.bmuls.now system.now.zeros.now system.now.rhss.now }
+    ensures { result ≡ bytes_in system.now.sizes system.now.ands.now system.now.imuls.now system.now.bmuls.now system.now.zeros.now system.now.rhss.now }
 {
-    let a = z.ands;
-    let i = z.imuls;
-    let b = z.bmuls;
-    let o = z.zeros;
-    let l = z.linears;
-    8 + (3 * a + operands(ands, 0, 3 * a))
-        + (3 * i + operands(imuls, 0, 4 * i))
-        + (3 * b + operands(bmuls, 0, 6 * b))
-        + (3 * o + operands(zeros, 0, o))
-        + (5 * l + operands(rhss, 0, l))
+    let z = system.sizes;
+    8 + (3 * z.ands + operands(&system.ands[..3 * z.ands]))
+        + (3 * z.imuls + operands(&system.imuls[..4 * z.imuls]))
+        + (3 * z.bmuls + operands(&system.bmuls[..6 * z.bmuls]))
+        + (3 * z.zeros + operands(&system.zeros[..z.zeros]))
+        + (5 * z.linears + operands(&system.rhss[..z.linears]))
 }

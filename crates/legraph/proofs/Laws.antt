@@ -5,6 +5,7 @@ use native.Mathlib.Omega.{arith}
 use mathlib.Core.Bool.{Bool, true, false}
 use mathlib.Core.List.{List, [], ◌∷◌, ◌++◌, map}
 use lib.ListN.{length, get_or, set, take, drop}
+use lib.Seq.{length-take-le}
 use borrow.Author.Tests.{lt-ltb, le-ltb}
 use Rattle.operand.specs.Numbers.{Operand, term_of, operand_of}
 use Rattle.lower.specs.declared.Sizes.{Sizes}
@@ -13,17 +14,13 @@ use Rattle.lower.specs.Stores.{Stores, system_of, row_handles, Stands, Placed}
 use Rattle.lower.specs.Faults.{memory_fault}
 use Rattle.lower.proofs.Checks.{checked, stand, memory_places, memory_others, memory_definitions}
 use Rattle.lower.proofs.Laws.{map-join, rows_model, definitions_model}
-use Rattle.lower.proofs.Firsts.{part_step, drop_step}
+use Rattle.lower.proofs.Firsts.{drop_back}
 use Rattle.legraph.specs.Tables.{numbered, use_number, Graph, graph, push, note_at, note, note_terms, user_number, note_from, note_all}
 
--- a list from the place before i on
-pub part_back : {A : Type 0} (l : List A) (n i : ℕ) (d : A) → 0 < i → i ≤ n → n ≤ length l → drop (i - 1) (take n l) ≡ get_or l (i - 1) d ∷ drop i (take n l)
-part_back l n i d p h k = let e : i - 1 + 1 ≡ i = omega arith in part_step l n (i - 1) d (omega arith) k ∙ ap (λ (j : ℕ). get_or l (i - 1) d ∷ drop j (take n l)) e
-
-pub numbered-back : (l ds : List ℕ) (n i : ℕ) → 0 < i → i ≤ n → n ≤ length ds
-    → numbered (i - 1) (drop (i - 1) (take n ds)) l ≡ set (numbered i (drop i (take n ds)) l) (get_or ds (i - 1) 0) i
+-- one definition, term or operand more, for a loop from the last one
+pub numbered_back : (l ds : List ℕ) (i : ℕ) → 0 < i → i ≤ length ds → numbered (i - 1) (drop (i - 1) ds) l ≡ set (numbered i (drop i ds) l) (get_or ds (i - 1) 0) i
 unfolding numbered
-numbered-back l ds n i p h k = rw (part_back ds n i 0 p h k) (ap (λ (j : ℕ). set (numbered j (drop i (take n ds)) l) (get_or ds (i - 1) 0) j) (omega arith))
+numbered_back l ds i p h = rw (drop_back ds i 0 p h) (ap (λ (j : ℕ). set (numbered j (drop i ds) l) (get_or ds (i - 1) 0) j) (omega arith))
 
 pub push_full : (user shift d : ℕ) (g : Graph) → length g.uses ≤ g.count → g ≡ push user shift d g
 unfolding push
@@ -45,14 +42,14 @@ note_defined user shift n d g e = rw e
 pub terms_back : (table : List ℕ) (user : ℕ) (ts : List ℕ) (i : ℕ) (g : Graph) → 0 < i → i ≤ length ts
     → note_terms table user (map term_of (drop (i - 1) ts)) g ≡ note table user (term_of (get_or ts (i - 1) 0)) (note_terms table user (map term_of (drop i ts)) g)
 unfolding note_terms
-terms_back table user ts i g p h = let e : i - 1 + 1 ≡ i = omega arith in rw (drop_step ts (i - 1) 0 (omega arith), e)
+terms_back table user ts i g p h = rw (drop_back ts i 0 p h)
 
-pub operands_back : (f : ℕ → Operand) (table : List ℕ) (linear : Bool) (hs : List ℕ) (n i : ℕ) (g : Graph) → 0 < i → i ≤ n → n ≤ length hs
-    → note_from table linear (i - 1) (map f (drop (i - 1) (take n hs))) g
-    ≡ note_terms table (user_number linear (i - 1)) (f (get_or hs (i - 1) 0)) (note_from table linear i (map f (drop i (take n hs))) g)
+pub operands_back : (f : ℕ → Operand) (table : List ℕ) (linear : Bool) (hs : List ℕ) (i : ℕ) (g : Graph) → 0 < i → i ≤ length hs
+    → note_from table linear (i - 1) (map f (drop (i - 1) hs)) g
+    ≡ note_terms table (user_number linear (i - 1)) (f (get_or hs (i - 1) 0)) (note_from table linear i (map f (drop i hs)) g)
 unfolding note_from
-operands_back f table linear hs n i g p h k = rw (part_back hs n i 0 p h k)
-    (ap (λ (j : ℕ). note_terms table (user_number linear (i - 1)) (f (get_or hs (i - 1) 0)) (note_from table linear j (map f (drop i (take n hs))) g)) (omega arith))
+operands_back f table linear hs i g p h = rw (drop_back hs i 0 p h)
+    (ap (λ (j : ℕ). note_terms table (user_number linear (i - 1)) (f (get_or hs (i - 1) 0)) (note_from table linear j (map f (drop i hs)) g)) (omega arith))
 
 -- users of rows are all one, so their numbers do not count
 rows_anywhere : (table : List ℕ) (k j : ℕ) (os : List Operand) (g : Graph) → note_from table false k os g ≡ note_from table false j os g
@@ -94,15 +91,15 @@ all_noted table z s g p =
     )
 
 -- what the call for each list asks
-abbrev pub There : Stores → List ℕ → ℕ → Type 0
-There s hs n = (n ≤ length hs) × (n < 65536) × All (Stands s.old s.new) (take n hs)
+abbrev pub There : Stores → List ℕ → Type 0
+There s hs = (length hs < 65536) × All (Stands s.old s.new) hs
 
 pub record AllThere (z : Sizes) (s : Stores) : Type 0 where
-  pub ands_part : There s s.ands (3 * z.ands)
-  pub imuls_part : There s s.imuls (4 * z.imuls)
-  pub bmuls_part : There s s.bmuls (6 * z.bmuls)
-  pub zeros_part : There s s.zeros z.zeros
-  pub rhss_part : There s s.rhss z.linears
+  pub ands_part : There s (take (3 * z.ands) s.ands)
+  pub imuls_part : There s (take (4 * z.imuls) s.imuls)
+  pub bmuls_part : There s (take (6 * z.bmuls) s.bmuls)
+  pub zeros_part : There s (take z.zeros s.zeros)
+  pub rhss_part : There s (take z.linears s.rhss)
 
 pub all_there : (z : Sizes) (s : Stores) → memory_fault 8192 z s ≡ 0 → AllThere z s
 all_there z s e =
@@ -110,9 +107,9 @@ all_there z s e =
     let others = memory_others 8192 z s e in
     let few = memory_definitions 8192 z s e in
     record {
-      ands_part = (y.ands_in, omega (arith, others), stand z s y (take (3 * z.ands) s.ands) y.ands_sound);
-      imuls_part = (y.imuls_in, omega (arith, others), stand z s y (take (4 * z.imuls) s.imuls) y.imuls_sound);
-      bmuls_part = (y.bmuls_in, omega (arith, others), stand z s y (take (6 * z.bmuls) s.bmuls) y.bmuls_sound);
-      zeros_part = (y.zeros_in, omega (arith, others), stand z s y (take z.zeros s.zeros) y.zeros_sound);
-      rhss_part = (y.rhss_in, omega (arith, few), stand z s y (take z.linears s.rhss) y.rhss_sound);
+      ands_part = (omega (arith, others, length-take-le _ _ y.ands_in), stand z s y _ y.ands_sound);
+      imuls_part = (omega (arith, others, length-take-le _ _ y.imuls_in), stand z s y _ y.imuls_sound);
+      bmuls_part = (omega (arith, others, length-take-le _ _ y.bmuls_in), stand z s y _ y.bmuls_sound);
+      zeros_part = (omega (arith, others, length-take-le _ _ y.zeros_in), stand z s y _ y.zeros_sound);
+      rhss_part = (omega (arith, few, length-take-le _ _ y.rhss_in), stand z s y _ y.rhss_sound);
     }

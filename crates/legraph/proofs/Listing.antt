@@ -107,9 +107,6 @@ pub record Grown (k : ℕ) (g g' : Graph) : Type 0 where
 grown-none : (g : Graph) → Grown 0 g g
 grown-none g = record { first_long = refl; uses_long = refl; count_up = omega arith }
 
-grown_both : (j k : ℕ) (a b c : Graph) → Grown j a b → Grown k b c → Grown (j + k) a c
-grown_both j k a b c p q = record { first_long = q.first_long ∙ p.first_long; uses_long = q.uses_long ∙ p.uses_long; count_up = omega (arith, p.count_up, q.count_up) }
-
 record Noted (n k : ℕ) (g : Graph) (U : ℕ → List Use) (g' : Graph) : Type 0 where
   holds : Holds n U g'
   grown : Grown k g g'

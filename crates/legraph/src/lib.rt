@@ -1,7 +1,7 @@
 // Uses and definitions. Follows frontend/src/pass/fusion/legraph.rs; the walk, which also finds circles, is added.
 #![tactic(auto)]
 
-ghost use Rattle.std.specs.Prelude.{◌≡◌, ℕ, ◌<◌, ◌≤◌, length, get_or, set, take};
+ghost use Rattle.std.specs.Prelude.{◌≡◌, ℕ, ◌<◌, length, get_or, set};
 ghost use Rattle.lower.specs.Lists.{All};
 ghost use Rattle.legraph.specs.Tables.{numbered, told_node};
 
@@ -11,14 +11,16 @@ pub mod post_order;
 pub mod uses;
 
 // What a wire is: defined by a definition, or not.
-#[derive(Clone, Copy)]
+// Kept: the enum and its names are frontend's.
+#[derive(Clone, Copy, Debug, PartialEq, Eq)]
 pub enum Node {
     LinDef(LinDefId),
     Opaque,
 }
 
 // How much of the order is left, and whether a circle was met.
-#[derive(Clone, Copy)]
+// Kept: the flag beside the value: the specs' `circled` keeps what is left.
+#[derive(Clone, Copy, Debug, PartialEq, Eq)]
 pub struct Walk {
     pub left: usize,
     pub circle: bool,
@@ -34,15 +36,12 @@ fn put(store: &mut [u16], i: usize, v: u16)
 }
 
 // Which definition each wire has, counted from 1: from the last one, so that the first one stands.
-pub fn add_lin_defs(dsts: &[u16], n: usize, table: &mut [u16])
-    requires { (n ≤ length dsts.now) × (n < 65536) × All (λ (d : ℕ). d < length table.old) (take n dsts.now) }
-    ensures { table.new ≡ numbered 0 (take n dsts.now) table.old }
+pub fn add_lin_defs(dsts: &[u16], table: &mut [u16])
+    requires { (length dsts.now < 65536) × All (λ (d : ℕ). d < length table.old) dsts.now }
+    ensures { table.new ≡ numbered 0 dsts.now table.old }
 {
-    let mut i = n;
-    while 0 < i {
-        i -= 1;
-        let d = dsts[i] as usize;
-        table[d] = (i + 1) as u16;
+    for i in (0..dsts.len()).rev() {
+        table[dsts[i] as usize] = (i + 1) as u16;
     }
 }
 

@@ -6,6 +6,7 @@ use Prim.Native.Nat.{ℕ, ◌*◌, ◌≤◌, ◌<◌}
 use native.Mathlib.Omega.{arith}
 use lib.ListN.{length, take, replicate, length-replicate}
 use lib.Dec.{eqb}
+use Rattle.std.specs.List.{list_any}
 use Rattle.operand.specs.Numbers.{Term, Operand, operand_of}
 use Rattle.lower.specs.declared.Sizes.{Sizes}
 use Rattle.lower.specs.Lists.{All, some_of, joined}
@@ -15,7 +16,7 @@ use Rattle.lower.specs.Faults.{is_double, double, twice, repeated, empty, is_emp
 use Rattle.lower.specs.Tables.{marks, marked, double_in, handle_double, lists_double}
 use Rattle.lower.proofs.Laws.{rows_model, definitions_model, destinations_model, all_imp, operand_length}
 use Rattle.lower.proofs.Checks.{Checked, stand}
-use Rattle.lower.proofs.Somes.{some-append, some-joined, some-map, some_same, marked_all, marked-none}
+use Rattle.lower.proofs.Somes.{some_any, some-append, some-joined, some-map, some_same, marked_all, marked-none}
 
 joined-append : {A : Type 0} (a b : List (List A)) → joined (a ++ b) ≡ joined a ++ joined b
 joined-append [] b = refl
@@ -110,39 +111,21 @@ module _ (z : Sizes) (s : Stores) (t : List ℕ) where
   abbrev row : List ℕ → Bool
   row hs = some_of (handle_double s.old s.new t false) hs
 
-  lists_are : lists_double z s t ≡
+  pub lists_are : lists_double z s t ≡
       ((row (take (3 * z.ands) s.ands) || (row (take (4 * z.imuls) s.imuls) || (row (take (6 * z.bmuls) s.bmuls) || row (take z.zeros s.zeros))))
       || some_of (handle_double s.old s.new t true) (take z.linears s.rhss))
   unfolding lists_double
   lists_are = ap (λ b. b || some_of (handle_double s.old s.new t true) (take z.linears s.rhss)) (rows_parts (handle_double s.old s.new t false) z s.ands s.imuls s.bmuls s.zeros)
-
-  pub lists_first : row (take (3 * z.ands) s.ands) ≡ true → lists_double z s t ≡ true
-  lists_first a = lists_are ∙ rw a
-
-  module _ (a : row (take (3 * z.ands) s.ands) ≡ false) where
-    pub lists_second : row (take (4 * z.imuls) s.imuls) ≡ true → lists_double z s t ≡ true
-    lists_second b = lists_are ∙ rw (a, b)
-
-    module _ (b : row (take (4 * z.imuls) s.imuls) ≡ false) where
-      pub lists_third : row (take (6 * z.bmuls) s.bmuls) ≡ true → lists_double z s t ≡ true
-      lists_third c = lists_are ∙ rw (a, b, c)
-
-      module _ (c : row (take (6 * z.bmuls) s.bmuls) ≡ false) where
-        pub lists_fourth : row (take z.zeros s.zeros) ≡ true → lists_double z s t ≡ true
-        lists_fourth d = lists_are ∙ rw (a, b, c, d)
-
-        pub lists_last : row (take z.zeros s.zeros) ≡ false
-            → lists_double z s t ≡ some_of (handle_double s.old s.new t true) (take z.linears s.rhss)
-        lists_last d = lists_are ∙ rw (a, b, c, d)
 
 -- 8 and 9 by the stores
 module _ (z : Sizes) (s : Stores) (y : Checked z s) where
   pub twice_model : twice (system_of z s) ≡ repeated (take z.linears s.dsts)
   twice_model = ap repeated (destinations_model z s y.dsts_in y.rhss_in)
 
-  pub empty_model : empty (system_of z s) ≡ some_of (λ (h : ℕ). eqb (length_of h) 0) (take z.linears s.rhss)
+  pub empty_model : empty (system_of z s) ≡ list_any (λ h. eqb (length_of h) 0) (take z.linears s.rhss)
   empty_model =
       ap (λ l. some_of (λ (o : Operand). is_empty o) l) (definitions_model z s y.dsts_in y.rhss_in)
       ∙ some-map (λ (o : Operand). is_empty o) (operand_of s.old s.new) (take z.linears s.rhss)
       ∙ some_same (λ (h : ℕ). is_empty (operand_of s.old s.new h)) (λ (h : ℕ). eqb (length_of h) 0) (take z.linears s.rhss)
       (all_imp (λ h p. ap (λ n. eqb n 0) (operand_length s.old s.new h p)) _ (stand z s y (take z.linears s.rhss) y.rhss_sound))
+      ∙ some_any (λ (h : ℕ). eqb (length_of h) 0) (take z.linears s.rhss)

@@ -8,10 +8,8 @@ use native.Mathlib.Numerals.{add-one}
 use native.Mathlib.Nat.{mul_comm, div-lt_iff_lt-mul, le-div_iff_mul-le}
 use lib.ListN.{length, take, drop, get_or, drop_of_length-le}
 use lib.Seq.{drop-cons, length-take-le, get_or-take}
-use lib.Dec.{ltb}
-use borrow.Author.Tests.{lt-ltb, le-ltb}
 use Rattle.lower.specs.Lists.{All, done, more, sum_of}
-use Rattle.lower.specs.Faults.{or_else, unless, first_fault, pairs_fault, operand_fault, WIRE}
+use Rattle.lower.specs.Faults.{or_else, unless, first_fault}
 
 -- ---- or_else, unless
 
@@ -51,16 +49,9 @@ unless_only Q false n p q = q
 pub drop_step : {A : Type 0} (l : List A) (i : ℕ) (d : A) → i < length l → drop i l ≡ get_or l i d ∷ drop (i + 1) l
 drop_step l i d h = rw (add-one, drop-cons l i d h)
 
--- one turn of a loop that looks for the first fault; r is the answer for the element
-module _ {A : Type 0} (f : A → ℕ) (d : A) (l : List A) (i r : ℕ) (e : r ≡ f (get_or l i d)) (p : i < length l) where
-  pub first_stop : (r ≡ 0 → ⊥) → first_fault f (drop i l) ≡ r
-  first_stop h = rw (drop_step l i d p, ← e) (else_some _ _ h)
-
-  pub first_go : r ≡ 0 → first_fault f (drop i l) ≡ first_fault f (drop (i + 1) l)
-  first_go h = rw (drop_step l i d p, ← e) (else_none _ _ h)
-
-pub first_end : {A : Type 0} (f : A → ℕ) (l : List A) (i : ℕ) → length l ≤ i → first_fault f (drop i l) ≡ 0
-first_end f l i p = rw (drop_of_length-le l p)
+-- one element more at the front, for a loop from the end
+pub drop_back : {A : Type 0} (l : List A) (i : ℕ) (d : A) → 0 < i → i ≤ length l → drop (i - 1) l ≡ get_or l (i - 1) d ∷ drop i l
+drop_back l i d p h = let e : i - 1 + 1 ≡ i = omega arith in drop_step l (i - 1) d (omega arith) ∙ ap (λ (j : ℕ). get_or l (i - 1) d ∷ drop j l) e
 
 pub first_map : {A B : Type 0} (f : B → ℕ) (g : A → B) (l : List A) → first_fault f (map g l) ≡ first_fault (λ x. f (g x)) l
 first_map f g [] = refl
@@ -70,10 +61,6 @@ first_map f g (x ∷ xs) = ap (or_else (f (g x))) (first_map f g xs)
 pub first_none : {A : Type 0} (f : A → ℕ) (l : List A) → first_fault f l ≡ 0 → All (λ (x : A). f x ≡ 0) l
 first_none f [] e = done
 first_none f (x ∷ l) e = more (else_first (f x) (first_fault f l) e) (first_none f l (else_second (f x) (first_fault f l) e))
-
-pub first_all : {A : Type 0} (f : A → ℕ) (l : List A) → All (λ (x : A). f x ≡ 0) l → first_fault f l ≡ 0
-first_all f [] done = refl
-first_all f (x ∷ l) (more p h) = rw (p, first_all f l h)
 
 -- what holds of 0 and of each fault holds of the first
 pub first_only : {A : Type 0} (Q : ℕ → Type 0) (f : A → ℕ) (l : List A) → Q 0 → All (λ (x : A). Q (f x)) l → Q (first_fault f l)
@@ -97,40 +84,16 @@ part_step l n i d p q =
 pub part_end : {A : Type 0} (l : List A) (n i : ℕ) → n ≤ length l → n ≤ i → drop i (take n l) ≡ []
 part_end l n i q p = drop_of_length-le (take n l) {i = i} (rw (length-take-le n l q) p)
 
+-- what holds of each holds of the i-th
+pub all_at : {A : Type 0} {P : A → Type 0} (l : List A) (i : ℕ) (d : A) → All P l → i < length l → P (get_or l i d)
+all_at [] i d h p = absurd (omega arith)
+all_at (x ∷ l) zero d (more q h) p = q
+all_at (x ∷ l) (suc i) d (more q h) p = all_at l i d h (omega arith)
+
 -- what holds of the first n holds of the i-th
 pub part_all : {A : Type 0} {P : A → Type 0} (l : List A) (n i : ℕ) (d : A) → All P (take n l) → i < n → n ≤ length l → P (get_or l i d)
-part_all {P = P} l n i d h p q = subst P (get_or-take n l i d p) (at (take n l) i h (rw (length-take-le n l q) p))
-  where
-    at : (l : List _) (i : ℕ) → All P l → i < length l → P (get_or l i d)
-    at [] i h p = absurd (omega arith)
-    at (x ∷ l) zero (more q h) p = q
-    at (x ∷ l) (suc i) (more q h) p = at l i h (omega arith)
-
--- one turn of a sum that is taken from the end
-pub sum_back : (f : ℕ → ℕ) (l : List ℕ) (n i : ℕ) → 0 < i → i ≤ n → n ≤ length l
-    → sum_of f (drop (i - 1) (take n l)) ≡ f (get_or l (i - 1) 0) + sum_of f (drop i (take n l))
-sum_back f l n i a b q =
-    let e : i - 1 + 1 ≡ i = omega arith in
-    ap (sum_of f) (part_step l n (i - 1) 0 (omega arith) q) ∙ rw e
+part_all {P = P} l n i d h p q = subst P (get_or-take n l i d p) (all_at (take n l) i d h (rw (length-take-le n l q) p))
 
 pub sum-append : {A : Type 0} (f : A → ℕ) (a b : List A) → sum_of f (a ++ b) ≡ sum_of f a + sum_of f b
 sum-append f [] b = omega arith
 sum-append f (x ∷ xs) b = let h = sum-append f xs b in omega arith
-
--- ---- definitions
-
-module _ (w : ℕ) (old new ds hs : List ℕ) (n i : ℕ) (p : i < n) (a : n ≤ length ds) (b : n ≤ length hs) where
-  pub pairs_step : pairs_fault w old new (drop i (take n ds)) (drop i (take n hs))
-      ≡ or_else (or_else (unless (ltb (get_or ds i 0) w) WIRE) (operand_fault w old new (get_or hs i 0))) (pairs_fault w old new (drop (i + 1) (take n ds)) (drop (i + 1) (take n hs)))
-  pairs_step = rw (part_step ds n i 0 p a, part_step hs n i 0 p b)
-
-  pub pairs_dst : w ≤ get_or ds i 0 → pairs_fault w old new (drop i (take n ds)) (drop i (take n hs)) ≡ WIRE
-  pairs_dst h = pairs_step ∙ rw (le-ltb _ _ h)
-
-  pub pairs_stop : (r : ℕ) → get_or ds i 0 < w → r ≡ operand_fault w old new (get_or hs i 0) → (r ≡ 0 → ⊥)
-      → pairs_fault w old new (drop i (take n ds)) (drop i (take n hs)) ≡ r
-  pairs_stop r h e z = pairs_step ∙ rw (lt-ltb _ _ h, ← e) (else_some _ _ z)
-
-  pub pairs_go : (r : ℕ) → get_or ds i 0 < w → r ≡ operand_fault w old new (get_or hs i 0) → r ≡ 0
-      → pairs_fault w old new (drop i (take n ds)) (drop i (take n hs)) ≡ pairs_fault w old new (drop (i + 1) (take n ds)) (drop (i + 1) (take n hs))
-  pairs_go r h e z = pairs_step ∙ rw (lt-ltb _ _ h, ← e) (else_none _ _ z)

@@ -1,7 +1,7 @@
 pub mod Firsts
+pub mod Refusals
 pub mod Laws
 pub mod Checks
-pub mod Shifts
 pub mod Somes
 pub mod Doubles
 pub mod Alls

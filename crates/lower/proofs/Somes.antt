@@ -8,6 +8,7 @@ use lib.ListN.{length, drop, set, length-set, replicate}
 use lib.Seq.{get_or-set_same, get_or-set_other}
 use lib.Dec.{eqb}
 use borrow.Author.Tests.{eq-eqb, ne_eqb, eqb-true, eqb-false}
+use Rattle.std.specs.List.{list_any}
 use Rattle.lower.specs.Lists.{All, done, more, some_of, joined}
 use Rattle.lower.specs.Faults.{repeated}
 use Rattle.lower.specs.Tables.{marks, marked}
@@ -47,6 +48,10 @@ module _ {A : Type 0} (p : A → Bool) where
   some-joined [] = refl
   some-joined (l ∷ ls) = some-append l (joined ls) ∙ rw (some-joined ls)
 
+  pub some_any : (l : List A) → some_of p l ≡ list_any p l
+  some_any [] = refl
+  some_any (x ∷ l) = rw (some_any l)
+
   -- nothing passes is that each fails
   pub none_all : (l : List A) → some_of p l ≡ false → All (λ (x : A). p x ≡ false) l
   none_all [] h = done
@@ -84,19 +89,12 @@ marked_all [] l w h = refl
 marked_all (d ∷ ds) l w (more p h) =
     marked_all ds (set l d 1) w (rw (length-set l d 1) h) ∙ rw (marked-set l d w p) (or_swap (some_of (eqb w) ds) (eqb w d) (marked l w))
 
--- one turn of a loop that marks
-pub marks_step : (l : List ℕ) (m : List ℕ) (i x : ℕ) → drop i m ≡ x ∷ drop (i + 1) m → marks l (drop i m) ≡ marks (set l x 1) (drop (i + 1) m)
-marks_step l m i x e = rw e
-
 -- ---- a number that stands twice, by marks
 
 abbrev pub again : List ℕ → List ℕ → Bool
 again met l = some_of (marked met) l || repeated l
 
 module _ (met m : List ℕ) (i x : ℕ) (e : drop i m ≡ x ∷ drop (i + 1) m) where
-  pub again_stop : marked met x ≡ true → again met (drop i m) ≡ true
-  again_stop h = rw (e, h)
-
   pub again_go : x < length met → marked met x ≡ false → again met (drop i m) ≡ again (set met x 1) (drop (i + 1) m)
   again_go p h = rw (e, h, newly (drop (i + 1) m)) (or_swap (some_of (marked met) (drop (i + 1) m)) (some_of (eqb x) (drop (i + 1) m)) (repeated (drop (i + 1) m)))
     where

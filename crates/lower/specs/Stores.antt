@@ -3,6 +3,7 @@
 --   Stores           two term stores, the operand numbers of the four kinds of rows, and the definitions: destinations and right sides
 --   chunks k n hs    n rows of k operand numbers each
 --   system_of z s     the system: so many wires, rows and definitions as z says
+--   stores_of s      the stores of a system that is lent; system_in s, the system that it is
 --   handles_in z s    the numbers of all its operands, in the writer's order
 --   Placed z s       every list is as long as its count asks, and every operand ends within its store: what is not so is 3
 --
@@ -10,6 +11,7 @@
 use Rattle.std.specs.Prelude.{ℕ, zero, suc, ◌*◌, ◌≤◌, List, [], ◌∷◌, ◌++◌, map, length, take, drop}
 use Rattle.operand.specs.Numbers.{Operand, operand_at, operand_of, Within}
 use Rattle.lower.specs.declared.Sizes.{Sizes}
+use Rattle.lower.specs.declared.LentSystem.{LentSystem}
 use Rattle.lower.specs.Lists.{All}
 use Rattle.lower.specs.Model.{Row, Definition, System}
 
@@ -49,6 +51,12 @@ system_of z s =
       zeros = rows_of (operand_of s.old s.new) 1 z.zeros s.zeros;
       linears = definitions_of (operand_of s.old s.new) (take z.linears s.dsts) (take z.linears s.rhss);
     }
+
+abbrev pub stores_of : LentSystem → Stores
+stores_of s = stores s.stores.old.now s.stores.new.now s.ands.now s.imuls.now s.bmuls.now s.zeros.now s.dsts.now s.rhss.now
+
+abbrev pub system_in : LentSystem → System
+system_in s = system_of s.sizes (stores_of s)
 
 unfoldable pub row_handles : Sizes → List ℕ → List ℕ → List ℕ → List ℕ → List ℕ
 row_handles z ands imuls bmuls zeros =

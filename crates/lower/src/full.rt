@@ -1,83 +1,53 @@
 // Whether the counts keep to the limits: 6.
-ghost use Rattle.std.specs.Prelude.{◌≡◌, ◌+◌, ◌*◌, ◌≤◌, length, take};
+ghost use Rattle.std.specs.Prelude.{◌≡◌, ◌+◌, ◌*◌, ◌≤◌, length};
+ghost use Rattle.refusal.specs.Refusals.{fault_in};
 ghost use Rattle.lower.specs.Accepted.{MAX_DEFINITIONS, MAX_OTHERS};
 ghost use Rattle.lower.specs.Lists.{sum_of};
-ghost use Rattle.lower.specs.Stores.{handles_of};
-ghost use Rattle.lower.specs.Faults.{length_of, full_fault};
+ghost use Rattle.lower.specs.Stores.{stores_of};
+ghost use Rattle.lower.specs.Faults.{length_of, terms_in, places_fault, full_fault};
 
-use crate::Sizes;
+use crate::LentSystem;
 use operand::WireOperand;
+use refusal::Refusal;
 
-// The terms of the first `n` operands, counted by their lengths.
-fn terms_of(hs: &[u64], n: usize) -> u64
-    requires { (n ≤ 6144) × (n ≤ length hs.now) }
-    ensures { (result ≡ sum_of length_of (take n hs.now)) × (result ≤ 26388279066624) }
+// The terms of the operands, counted by their lengths.
+fn terms_of(hs: &[u64]) -> u64
+    requires { length hs.now ≤ 6144 }
+    ensures { (result ≡ sum_of length_of hs.now) × (result ≤ 26388279066624) }
 {
     let mut total: u64 = 0;
-    let mut i = n;
-    while 0 < i {
-        i -= 1;
-        let o = WireOperand::from_number(hs[i]);
-        total += o.len as u64;
+    for h in hs {
+        total += WireOperand::from_number(*h).len as u64;
     }
     total
 }
 
 // All terms, of counts that keep to the limits.
-fn all_terms(
-    ands: &[u64],
-    imuls: &[u64],
-    bmuls: &[u64],
-    zeros: &[u64],
-    rhss: &[u64],
-    z: Sizes,
-) -> u64
-    requires zeros_bound { (z.ands + z.imuls + z.bmuls + z.zeros ≤ MAX_OTHERS) × (z.linears ≤ MAX_DEFINITIONS) }
-    requires ands_in_bounds { (3 * z.ands ≤ length ands.now) × (4 * z.imuls ≤ length imuls.now) × (6 * z.bmuls ≤ length bmuls.now) × (z.zeros ≤ length zeros.now) × (z.linears ≤ length rhss.now) }
-    ensures { result ≡ sum_of length_of (handles_of z ands.now imuls.now bmuls.now zeros.now rhss.now) }
+fn all_terms(system: &LentSystem<'_>) -> u64
+    requires places_sound { places_fault system.now.sizes (stores_of system.now) ≡ 0 }
+    requires counts_bound { (system.now.sizes.ands + system.now.sizes.imuls + system.now.sizes.bmuls + system.now.sizes.zeros ≤ MAX_OTHERS) × (system.now.sizes.linears ≤ MAX_DEFINITIONS) }
+    ensures { result ≡ terms_in system.now.sizes (stores_of system.now) }
 {
-    let a = z.ands;
-    let i = z.imuls;
-    let b = z.bmuls;
-    let o = z.zeros;
-    let l = z.linears;
-    terms_of(ands, 3 * a)
-        + (terms_of(imuls, 4 * i) + (terms_of(bmuls, 6 * b) + terms_of(zeros, o)))
-        + terms_of(rhss, l)
+    terms_of(system.and_operands())
+        + terms_of(system.imul_operands())
+        + terms_of(system.bmul_operands())
+        + terms_of(system.zero_operands())
+        + terms_of(system.right_sides())
 }
 
-pub fn full_fault(
-    ands: &[u64],
-    imuls: &[u64],
-    bmuls: &[u64],
-    zeros: &[u64],
-    rhss: &[u64],
-    z: Sizes,
-    limit: u64,
-) -> u8
-    requires { (3 * z.ands ≤ length ands.now) × (4 * z.imuls ≤ length imuls.now) × (6 * z.bmuls ≤ length bmuls.now) × (z.zeros ≤ length zeros.now) × (z.linears ≤ length rhss.now) }
-    ensures { result ≡ full_fault limit z (sum_of length_of (handles_of z ands.now imuls.now bmuls.now zeros.now rhss.now)) }
+#[tactic(auto, unfolding(crate::specs::Faults::full_fault))]
+pub fn check_counts(system: &LentSystem<'_>, limit: u64) -> Result<(), Refusal>
+    requires { places_fault system.now.sizes (stores_of system.now) ≡ 0 }
+    ensures { fault_in result ≡ full_fault limit system.now.sizes (terms_in system.now.sizes (stores_of system.now)) }
 {
-    let w = z.wires;
-    let a = z.ands;
-    let i = z.imuls;
-    let b = z.bmuls;
-    let o = z.zeros;
-    let l = z.linears;
-    if w == 0 {
-        return crate::FULL;
+    let z = system.sizes;
+    if z.wires == 0
+        || crate::MAX_WIRES < z.wires
+        || crate::MAX_DEFINITIONS < z.linears
+        || crate::MAX_OTHERS < z.ands + z.imuls + z.bmuls + z.zeros
+        || limit < all_terms(system)
+    {
+        return Err(Refusal::Full);
     }
-    if crate::MAX_WIRES < w {
-        return crate::FULL;
-    }
-    if crate::MAX_DEFINITIONS < l {
-        return crate::FULL;
-    }
-    if crate::MAX_OTHERS < a + i + b + o {
-        return crate::FULL;
-    }
-    if limit < all_terms(ands, imuls, bmuls, zeros, rhss, z) {
-        return crate::FULL;
-    }
-    0
+    Ok(())
 }

@@ -1,32 +1,18 @@
 // The five lists of a constraint system in lent stores. Follows frontend/src/lower/mod.rs; the checks are added.
 #![tactic(auto)]
 
-ghost use Rattle.std.specs.Prelude.{◌≡◌, ◌≤◌};
-ghost use Rattle.operand.specs.Numbers.{operand_at, terms_at};
+ghost use Rattle.std.specs.Prelude.{◌≡◌, ◌*◌, ◌≤◌, take};
+ghost use Rattle.refusal.specs.Refusals.{fault_in};
 ghost use Rattle.lower.specs.Accepted.{MAX_WIRES};
-ghost use Rattle.lower.specs.Stores.{stores, Stands, system_of};
+ghost use Rattle.lower.specs.Stores.{stores_of, system_in};
 ghost use Rattle.lower.specs.Faults.{memory_fault, places_fault, definition_fault, fault_of};
 
-use operand::WireOperand;
+use operand::TermStores;
+use refusal::Refusal;
 
 mod definitions;
 mod full;
 mod places;
-
-// The numbers of refusals.
-pub const SHAPE: u8 = 3;
-
-pub const SHIFT: u8 = 4;
-
-pub const WIRE: u8 = 5;
-
-pub const FULL: u8 = 6;
-
-pub const TWICE: u8 = 8;
-
-pub const EMPTY: u8 = 9;
-
-pub const DOUBLE: u8 = 10;
 
 pub const MAX_WIRES: usize = 4096;
 
@@ -52,117 +38,111 @@ pub struct Sizes {
     pub linears: usize,
 }
 
-// The terms of the operand that stands in a list as the number `h`, as a part of whichever store holds them.
-pub fn operand_terms<'a>(old: &'a [u64], new: &'a [u64], h: u64) -> &'a [u64]
-    requires { Stands old.now new.now h }
-    ensures { result.now ≡ terms_at old.now new.now (operand_at h) }
-{
-    operand::valid::as_slice(WireOperand::from_number(h), old, new)
+// A constraint system as its owner lends it: the terms, the operand numbers of the four kinds of rows, and the definitions, destinations
+// beside right sides. The lists may be longer than `sizes` says.
+#[derive(Clone, Copy)]
+pub struct LentSystem<'a> {
+    pub stores: TermStores<'a>,
+    pub ands: &'a [u64],
+    pub imuls: &'a [u64],
+    pub bmuls: &'a [u64],
+    pub zeros: &'a [u64],
+    pub dsts: &'a [u16],
+    pub rhss: &'a [u64],
+    pub sizes: Sizes,
 }
 
-// Lists in tag order: 3, 4 and 5 as they are met.
-fn check_places<'a>(
-    old: &'a [u64],
-    new: &'a [u64],
-    ands: &[u64],
-    imuls: &[u64],
-    bmuls: &[u64],
-    zeros: &[u64],
-    dsts: &[u16],
-    rhss: &[u64],
-    z: Sizes,
-) -> u8
-    ensures { result ≡ places_fault z (stores old.now new.now ands.now imuls.now bmuls.now zeros.now dsts.now rhss.now) }
-{
-    let wires = z.wires;
-    let in_ands = places::rows_fault(old, new, ands, 3, z.ands, wires);
-    if in_ands != 0 {
-        return in_ands;
+impl<'a> LentSystem<'a> {
+    // What every entry point checks first: 3, 4 and 5 in one pass, then 6. `limit` is how many terms there may be.
+    #[tactic(auto, using(crate::proofs::Refusals::exit_else), unfolding(crate::specs::Faults::memory_fault))]
+    pub fn check(&self, limit: u64) -> Result<(), Refusal>
+        ensures { fault_in result ≡ memory_fault limit self.now.sizes (stores_of self.now) }
+    {
+        self.check_places()?;
+        full::check_counts(self, limit)
     }
-    let in_imuls = places::rows_fault(old, new, imuls, 4, z.imuls, wires);
-    if in_imuls != 0 {
-        return in_imuls;
-    }
-    let in_bmuls = places::rows_fault(old, new, bmuls, 6, z.bmuls, wires);
-    if in_bmuls != 0 {
-        return in_bmuls;
-    }
-    let in_zeros = places::rows_fault(old, new, zeros, 1, z.zeros, wires);
-    if in_zeros != 0 {
-        return in_zeros;
-    }
-    places::definitions_fault(old, new, dsts, rhss, z.linears, wires)
-}
 
-// What every entry point checks first: 3, 4 and 5 in one pass, then 6. `limit` is how many terms there may be.
-pub fn check<'a>(
-    old: &'a [u64],
-    new: &'a [u64],
-    ands: &[u64],
-    imuls: &[u64],
-    bmuls: &[u64],
-    zeros: &[u64],
-    dsts: &[u16],
-    rhss: &[u64],
-    z: Sizes,
-    limit: u64,
-) -> u8
-    ensures { result ≡ memory_fault limit z (stores old.now new.now ands.now imuls.now bmuls.now zeros.now dsts.now rhss.now) }
-{
-    let misplaced = check_places(old, new, ands, imuls, bmuls, zeros, dsts, rhss, z);
-    if misplaced != 0 {
-        return misplaced;
+    // 8, 9 and 10, each over the whole system before the next, where `check` has found nothing.
+    pub fn check_definitions(&self) -> Result<(), Refusal>
+        requires places_sound { places_fault self.now.sizes (stores_of self.now) ≡ 0 }
+        requires wires_bound { self.now.sizes.wires ≤ MAX_WIRES }
+        ensures { fault_in result ≡ definition_fault (system_in self.now) }
+    {
+        if definitions::is_twice(self.destinations()) {
+            return Err(Refusal::Twice);
+        }
+        if definitions::has_empty(self.right_sides()) {
+            return Err(Refusal::Empty);
+        }
+        if definitions::has_double(self) {
+            return Err(Refusal::Double);
+        }
+        Ok(())
     }
-    full::full_fault(ands, imuls, bmuls, zeros, rhss, z, limit)
-}
 
-// 8, 9 and 10, each over the whole system before the next, where `check` has found nothing.
-pub fn check_definitions<'a>(
-    old: &'a [u64],
-    new: &'a [u64],
-    ands: &[u64],
-    imuls: &[u64],
-    bmuls: &[u64],
-    zeros: &[u64],
-    dsts: &[u16],
-    rhss: &[u64],
-    z: Sizes,
-) -> u8
-    requires rhss_value { places_fault z (stores old.now new.now ands.now imuls.now bmuls.now zeros.now dsts.now rhss.now) ≡ 0 }
-    requires wires_bound { z.wires ≤ MAX_WIRES }
-    ensures { result ≡ definition_fault (system_of z (stores old.now new.now ands.now imuls.now bmuls.now zeros.now dsts.now rhss.now)) }
-{
-    let n = z.linears;
-    if definitions::is_twice(dsts, n) {
-        return TWICE;
+    // Everything up to 10.
+    #[tactic(auto, using(crate::proofs::Refusals::exit_else, crate::proofs::Checks::memory_places, crate::proofs::Checks::memory_wires), unfolding(crate::specs::Faults::fault_of))]
+    pub fn check_all(&self, limit: u64) -> Result<(), Refusal>
+        ensures { fault_in result ≡ fault_of limit self.now.sizes (stores_of self.now) }
+    {
+        self.check(limit)?;
+        self.check_definitions()
     }
-    if definitions::has_empty(rhss, n) {
-        return EMPTY;
-    }
-    if definitions::has_double(old, new, ands, imuls, bmuls, zeros, dsts, rhss, z) {
-        return DOUBLE;
-    }
-    0
-}
 
-// Everything up to 10.
-pub fn check_all<'a>(
-    old: &'a [u64],
-    new: &'a [u64],
-    ands: &[u64],
-    imuls: &[u64],
-    bmuls: &[u64],
-    zeros: &[u64],
-    dsts: &[u16],
-    rhss: &[u64],
-    z: Sizes,
-    limit: u64,
-) -> u8
-    ensures { result ≡ fault_of limit z (stores old.now new.now ands.now imuls.now bmuls.now zeros.now dsts.now rhss.now) }
-{
-    let fault = check(old, new, ands, imuls, bmuls, zeros, dsts, rhss, z, limit);
-    if fault != 0 {
-        return fault;
+    // Lists in tag order: 3, 4 and 5 as they are met.
+    #[tactic(auto, using(crate::proofs::Refusals::exit_else), unfolding(crate::specs::Faults::places_fault))]
+    pub fn check_places(&self) -> Result<(), Refusal>
+        ensures { fault_in result ≡ places_fault self.now.sizes (stores_of self.now) }
+    {
+        let stores = &self.stores;
+        let z = self.sizes;
+        places::check_rows(stores, self.ands, 3, z.ands, z.wires)?;
+        places::check_rows(stores, self.imuls, 4, z.imuls, z.wires)?;
+        places::check_rows(stores, self.bmuls, 6, z.bmuls, z.wires)?;
+        places::check_rows(stores, self.zeros, 1, z.zeros, z.wires)?;
+        places::check_definitions(stores, self.dsts, self.rhss, z.linears, z.wires)
     }
-    check_definitions(old, new, ands, imuls, bmuls, zeros, dsts, rhss, z)
+
+    // The lists, each as long as its count asks.
+    pub fn and_operands(&self) -> &'a [u64]
+        requires { places_fault self.now.sizes (stores_of self.now) ≡ 0 }
+        ensures { result.now ≡ take (3 * self.now.sizes.ands) self.now.ands.now }
+    {
+        &self.ands[..3 * self.sizes.ands]
+    }
+
+    pub fn imul_operands(&self) -> &'a [u64]
+        requires { places_fault self.now.sizes (stores_of self.now) ≡ 0 }
+        ensures { result.now ≡ take (4 * self.now.sizes.imuls) self.now.imuls.now }
+    {
+        &self.imuls[..4 * self.sizes.imuls]
+    }
+
+    pub fn bmul_operands(&self) -> &'a [u64]
+        requires { places_fault self.now.sizes (stores_of self.now) ≡ 0 }
+        ensures { result.now ≡ take (6 * self.now.sizes.bmuls) self.now.bmuls.now }
+    {
+        &self.bmuls[..6 * self.sizes.bmuls]
+    }
+
+    pub fn zero_operands(&self) -> &'a [u64]
+        requires { places_fault self.now.sizes (stores_of self.now) ≡ 0 }
+        ensures { result.now ≡ take self.now.sizes.zeros self.now.zeros.now }
+    {
+        &self.zeros[..self.sizes.zeros]
+    }
+
+    pub fn destinations(&self) -> &'a [u16]
+        requires { places_fault self.now.sizes (stores_of self.now) ≡ 0 }
+        ensures { result.now ≡ take self.now.sizes.linears self.now.dsts.now }
+    {
+        &self.dsts[..self.sizes.linears]
+    }
+
+    pub fn right_sides(&self) -> &'a [u64]
+        requires { places_fault self.now.sizes (stores_of self.now) ≡ 0 }
+        ensures { result.now ≡ take self.now.sizes.linears self.now.rhss.now }
+    {
+        &self.rhss[..self.sizes.linears]
+    }
 }

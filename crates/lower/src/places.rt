@@ -1,126 +1,104 @@
 // Whether operands lie in their stores, and their terms name wires and shifts that there are: 3, 4 and 5.
 ghost use Rattle.std.specs.Prelude.{◌≡◌, map, ◌<◌, ◌≤◌};
+ghost use Rattle.refusal.specs.Refusals.{fault_in};
 ghost use Rattle.shift.specs.Shifts.{valid_number};
 ghost use Rattle.operand.specs.Numbers.{term_of};
 ghost use Rattle.lower.specs.Faults.{first_fault, term_fault, operand_fault, rows_fault, definitions_fault};
 
-use operand::WireOperand;
-use shift::{Found, Shift};
+use operand::{TermStores, WireOperand};
+use refusal::Refusal;
+use shift::Shift;
 
 fn is_shift(n: u64) -> bool
     ensures { result ≡ valid_number n }
 {
-    let found = Shift::from_index(n);
-    match found {
-        Found::Valid(_) => true,
-        Found::Refused => false,
-    }
+    Shift::from_index(n).is_ok()
 }
 
-fn term_fault(t: u64, wires: usize) -> u8
-    ensures { result ≡ term_fault wires (term_of t) }
+#[tactic(auto, unfolding(crate::specs::Faults::term_fault))]
+fn check_term(t: u64, wires: usize) -> Result<(), Refusal>
+    ensures { fault_in result ≡ term_fault wires (term_of t) }
 {
     let wire = operand::term::wire(t);
     if wires <= wire.0 as usize {
-        return crate::WIRE;
+        return Err(Refusal::Wire);
     }
     // No shift is spelt: both numbers are 0, and most terms are so.
     if t < 65536 {
-        return 0;
+        return Ok(());
     }
-    if !is_shift(operand::term::inner(t)) {
-        return crate::SHIFT;
+    if !is_shift(operand::term::inner(t)) || !is_shift(operand::term::outer(t)) {
+        return Err(Refusal::Shift);
     }
-    if !is_shift(operand::term::outer(t)) {
-        return crate::SHIFT;
-    }
-    0
+    Ok(())
 }
 
-fn terms_fault(ts: &[u64], wires: usize) -> u8
-    ensures { result ≡ first_fault (term_fault wires) (map term_of ts.now) }
+fn check_terms(ts: &[u64], wires: usize) -> Result<(), Refusal>
+    ensures { fault_in result ≡ first_fault (term_fault wires) (map term_of ts.now) }
 {
-    let mut i = 0;
-    while i < ts.len() {
-        let fault = term_fault(ts[i], wires);
-        if fault != 0 {
-            return fault;
-        }
-        i += 1;
+    for t in ts {
+        check_term(*t, wires)?;
     }
-    0
+    Ok(())
 }
 
-fn operand_fault<'a>(old: &'a [u64], new: &'a [u64], h: u64, wires: usize) -> u8
-    ensures { result ≡ operand_fault wires old.now new.now h }
+#[tactic(auto, unfolding(crate::specs::Faults::operand_fault))]
+fn check_operand(stores: &TermStores<'_>, h: u64, wires: usize) -> Result<(), Refusal>
+    ensures { fault_in result ≡ operand_fault wires stores.now.old.now stores.now.new.now h }
 {
-    if !WireOperand::from_number(h).is_within(old, new) {
-        return crate::SHAPE;
+    if !stores.holds(WireOperand::from_number(h)) {
+        return Err(Refusal::Shape);
     }
-    terms_fault(crate::operand_terms(old, new, h), wires)
+    check_terms(stores.terms(h), wires)
 }
 
-fn operands_fault<'a>(old: &'a [u64], new: &'a [u64], hs: &[u64], wires: usize) -> u8
-    ensures { result ≡ first_fault (operand_fault wires old.now new.now) hs.now }
+fn check_operands(stores: &TermStores<'_>, hs: &[u64], wires: usize) -> Result<(), Refusal>
+    ensures { fault_in result ≡ first_fault (operand_fault wires stores.now.old.now stores.now.new.now) hs.now }
 {
-    let mut i = 0;
-    while i < hs.len() {
-        let fault = operand_fault(old, new, hs[i], wires);
-        if fault != 0 {
-            return fault;
-        }
-        i += 1;
+    for h in hs {
+        check_operand(stores, *h, wires)?;
     }
-    0
+    Ok(())
 }
 
 // `count` rows of `arity` operands. The quotient, since the product may not fit.
-pub fn rows_fault<'a>(
-    old: &'a [u64],
-    new: &'a [u64],
+#[tactic(auto, using(crate::proofs::Firsts::rows_short, crate::proofs::Firsts::rows_long), unfolding(crate::specs::Faults::rows_fault))]
+pub fn check_rows(
+    stores: &TermStores<'_>,
     hs: &[u64],
     arity: usize,
     count: usize,
     wires: usize,
-) -> u8
+) -> Result<(), Refusal>
     requires { (0 < arity) × (arity ≤ 6) }
-    ensures { result ≡ rows_fault wires old.now new.now arity count hs.now }
+    ensures { fault_in result ≡ rows_fault wires stores.now.old.now stores.now.new.now arity count hs.now }
 {
     if hs.len() / arity < count {
-        return crate::SHAPE;
+        return Err(Refusal::Shape);
     }
-    let m = arity * count;
-    operands_fault(old, new, &hs[0..m], wires)
+    check_operands(stores, &hs[..arity * count], wires)
 }
 
 // Each destination before its right side.
-pub fn definitions_fault<'a>(
-    old: &'a [u64],
-    new: &'a [u64],
+#[tactic(auto, unfolding(crate::specs::Faults::definitions_fault))]
+pub fn check_definitions(
+    stores: &TermStores<'_>,
     dsts: &[u16],
     rhss: &[u64],
     count: usize,
     wires: usize,
-) -> u8
-    ensures { result ≡ definitions_fault wires old.now new.now count dsts.now rhss.now }
+) -> Result<(), Refusal>
+    ensures { fault_in result ≡ definitions_fault wires stores.now.old.now stores.now.new.now count dsts.now rhss.now }
 {
-    if dsts.len() < count {
-        return crate::SHAPE;
+    if dsts.len() < count || rhss.len() < count {
+        return Err(Refusal::Shape);
     }
-    if rhss.len() < count {
-        return crate::SHAPE;
-    }
-    let mut i = 0;
-    while i < count {
-        let dst = dsts[i] as usize;
-        if wires <= dst {
-            return crate::WIRE;
+    let rhss = &rhss[..count];
+    for (i, dst) in dsts[..count].iter().enumerate() {
+        if wires <= *dst as usize {
+            return Err(Refusal::Wire);
         }
-        let fault = operand_fault(old, new, rhss[i], wires);
-        if fault != 0 {
-            return fault;
-        }
-        i += 1;
+        check_operand(stores, rhss[i], wires)?;
     }
-    0
+    Ok(())
 }

@@ -5,17 +5,15 @@
 --   examples    the rows of 01 in their order
 --
 -- Assumes nothing.
-use Rattle.std.specs.Prelude.{ℕ, ◌≡◌, List, [], ◌∷◌}
+use Rattle.std.specs.Prelude.{ℕ, ◌≡◌, List, [], ◌∷◌, Ok}
 use Rattle.shift.specs.declared.ShiftVariant.TheVariants.{Sll, Slr, Sar, Rotr, Sll32, Srl32, Sra32}
 use Rattle.shift.specs.declared.Shift.{Shift}
 use Rattle.shift.specs.declared.Composition.{Composition}
 use Rattle.shift.specs.declared.Composition.TheVariants.{Single, Zero, Pair}
-use Rattle.shift.specs.declared.Composed.TheVariants as C
 use Rattle.shift.specs.Shifts.{by, identity}
 use Rattle.shift.specs.Answers.{composed}
 use Rattle.operand.specs.declared.PushInner.{PushInner}
 use Rattle.operand.specs.declared.PushInner.TheVariants.{Seq}
-use Rattle.operand.specs.declared.Pushed.TheVariants as P
 use Rattle.operand.specs.Push.{pushed}
 
 pub data Example : Type 0 where
@@ -23,8 +21,8 @@ pub data Example : Type 0 where
   pushes : Shift → Shift → Shift → ℕ → PushInner → Example
 
 abbrev pub Holds : Example → Type 0
-Holds (composes i o c) = composed i o ≡ C.Is c
-Holds (pushes i o s n p) = pushed i o s n ≡ P.Is p
+Holds (composes i o c) = composed i o ≡ Ok c
+Holds (pushes i o s n p) = pushed i o s n ≡ Ok p
 
 abbrev pub All : List Example → Type 0
 All [] = Unit

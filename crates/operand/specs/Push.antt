@@ -10,8 +10,10 @@
 --   Canonical a b        the spellings that a push leaves; Spelt p, that the answer p has one of them
 --
 -- Assumes nothing.
-use Rattle.std.specs.Prelude.{ℕ, ◌<◌, ◌^◌, ◌≡◌, cond, ◌&&◌, List, [], ◌∷◌, leb, eqb}
-use Rattle.word.specs.Answers.{Told, given, refused, SHIFT}
+use Rattle.std.specs.Prelude.{ℕ, ◌<◌, ◌^◌, ◌≡◌, cond, ◌&&◌, List, [], ◌∷◌, leb, eqb, Result, Ok, Err}
+use Rattle.refusal.specs.declared.Refusal.{Refusal}
+use Rattle.refusal.specs.declared.Refusal.TheVariants as R
+use Rattle.word.specs.Answers.{Told, told_by}
 use Rattle.shift.specs.declared.Shift.{Shift}
 use Rattle.shift.specs.declared.Composition.{Composition}
 use Rattle.shift.specs.declared.Composition.TheVariants as C
@@ -19,8 +21,6 @@ use Rattle.shift.specs.Shifts.{valid, Valid, identity, number_of, apply_of}
 use Rattle.shift.specs.Compose.{compose_valid}
 use Rattle.operand.specs.declared.PushInner.{PushInner}
 use Rattle.operand.specs.declared.PushInner.TheVariants.{Seq, Zero, OverBudget}
-use Rattle.operand.specs.declared.Pushed.{Pushed}
-use Rattle.operand.specs.declared.Pushed.TheVariants.{Is, Refused}
 
 -- operand.rs: "the shift inner, and an identity spelled one way"
 abbrev pub lone_of : Shift → PushInner
@@ -47,17 +47,16 @@ unfoldable pub push_valid : Shift → Shift → Shift → ℕ → PushInner
 push_valid i o s slots = first_fold i o s slots (compose_valid s i)
 
 -- "Handed an invalid shift .. `push_inner` answer 4"
-abbrev pub pushed : Shift → Shift → Shift → ℕ → Pushed
-pushed i o s slots = cond (valid i && (valid o && valid s)) (Is (push_valid i o s slots)) Refused
+abbrev pub pushed : Shift → Shift → Shift → ℕ → Result PushInner Refusal
+pushed i o s slots = cond (valid i && (valid o && valid s)) (Ok (push_valid i o s slots)) (Err R.Shift)
 
 abbrev pub values : PushInner → List ℕ
 values (Seq a b) = 0 ∷ number_of a ∷ number_of b ∷ []
 values Zero = 1 ∷ []
 values OverBudget = 2 ∷ []
 
-abbrev pub told_pushed : Pushed → Told
-told_pushed (Is p) = given (values p)
-told_pushed Refused = refused SHIFT
+abbrev pub told_pushed : Result PushInner Refusal → Told
+told_pushed = told_by values
 
 -- the shifts of a Seq are valid, and have the meaning of s, then i, then o; at Zero the three clear every word
 abbrev pub PushRight : Shift → Shift → Shift → PushInner → Type 0

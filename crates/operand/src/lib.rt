@@ -6,25 +6,26 @@ ghost use Rattle.word.specs.Answers.{checked};
 ghost use Rattle.shift.specs.Shifts.{valid, identity};
 ghost use Rattle.operand.specs.Push.{push_valid, pushed, told_pushed, values};
 ghost use Rattle.operand.specs.Terms.{sole_of, told_sole, told_one};
-ghost use Rattle.operand.specs.Numbers.{operand_at, within};
+ghost use Rattle.operand.specs.Numbers.{operand_at, store_for, within, Within, terms_at};
 
+use refusal::Refusal;
 use shift::Shift;
 
 pub mod term;
 pub mod valid;
 
 // The numbers of a wire, a definition and a constraint: one is not taken for another.
-#[derive(Clone, Copy)]
+#[derive(Clone, Copy, Debug, PartialEq, Eq)]
 pub struct Wire(pub u16);
 
-#[derive(Clone, Copy)]
+#[derive(Clone, Copy, Debug, PartialEq, Eq)]
 pub struct LinDefId(pub u16);
 
-#[derive(Clone, Copy)]
+#[derive(Clone, Copy, Debug, PartialEq, Eq)]
 pub struct ConstraintId(pub u16);
 
 // A wire and the two shifts folded into the term, the inner one applied first.
-#[derive(Clone, Copy)]
+#[derive(Clone, Copy, Debug, PartialEq, Eq)]
 pub struct ShiftedWire {
     pub wire: Wire,
     pub inner: Shift,
@@ -32,33 +33,26 @@ pub struct ShiftedWire {
 }
 
 // The terms from `start` on, `len` of them, in the new store or in the old one.
-#[derive(Clone, Copy)]
+#[derive(Clone, Copy, Debug, PartialEq, Eq)]
 pub struct WireOperand {
     pub start: u32,
     pub len: u32,
     pub new: bool,
 }
 
-// What folding one more shift inside two shifts comes to.
+// The two stores that operands stand in.
 #[derive(Clone, Copy)]
+pub struct TermStores<'a> {
+    pub old: &'a [u64],
+    pub new: &'a [u64],
+}
+
+// What folding one more shift inside two shifts comes to.
+#[derive(Clone, Copy, Debug, PartialEq, Eq)]
 pub enum PushInner {
     Seq(Shift, Shift),
     Zero,
     OverBudget,
-}
-
-// The same, or 4.
-#[derive(Clone, Copy)]
-pub enum Pushed {
-    Is(PushInner),
-    Refused,
-}
-
-// The one shift of a term, or 10: it has two.
-#[derive(Clone, Copy)]
-pub enum Sole {
-    Shift(Shift),
-    Refused,
 }
 
 impl ShiftedWire {
@@ -73,15 +67,14 @@ impl ShiftedWire {
         }
     }
 
-    pub fn sole_shift(self) -> Sole
+    // Its one shift, if the outer slot is free.
+    pub fn sole_shift(self) -> Result<Shift, Refusal>
         ensures { (result ≡ sole_of self) × (told_sole result ≡ told_one self) }
     {
-        let inner = self.inner;
-        let outer = self.outer;
-        if outer.is_identity() {
-            Sole::Shift(inner)
+        if self.outer.is_identity() {
+            Ok(self.inner)
         } else {
-            Sole::Refused
+            Err(Refusal::Double)
         }
     }
 }
@@ -115,32 +108,44 @@ impl WireOperand {
     {
         self.len == 0
     }
+}
 
-    // Whether it ends within the store that it stands in.
-    pub fn is_within(self, old: &[u64], new: &[u64]) -> bool
-        ensures { result ≡ within old.now new.now self }
+impl<'a> TermStores<'a> {
+    // The store that the operand stands in.
+    fn store(&self, operand: WireOperand) -> &'a [u64]
+        ensures { result.now ≡ store_for self.now.old.now self.now.new.now operand }
     {
-        let end = self.start as usize + self.len as usize;
-        if self.new {
-            return end <= new.len();
-        }
-        end <= old.len()
+        if operand.new { self.new } else { self.old }
+    }
+
+    // Whether the operand ends within its store.
+    pub fn holds(&self, operand: WireOperand) -> bool
+        ensures { result ≡ within self.now.old.now self.now.new.now operand }
+    {
+        operand.start() + operand.len() <= self.store(operand).len()
+    }
+
+    // The terms of the operand that the number `h` stands for, as a part of whichever store holds them.
+    pub fn terms(&self, h: u64) -> &'a [u64]
+        requires { Within self.now.old.now self.now.new.now (operand_at h) }
+        ensures { result.now ≡ terms_at self.now.old.now self.now.new.now (operand_at h) }
+    {
+        let operand = WireOperand::from_number(h);
+        let store = self.store(operand);
+        let start = operand.start();
+        &store[start..start + operand.len()]
     }
 }
 
 // Folds `shift` into the sequence `inner`, `outer`, as the new innermost shift. Inlining a definition applies the consumer's shifts to a
 // term that has one of its own, and that one lands innermost: y = sll(x, 4) in .. ^ sll(y, 3) is sll(x, 7).
-pub fn push_inner(inner: Shift, outer: Shift, shift: Shift, slots: usize) -> Pushed
+pub fn push_inner(
+    inner: Shift,
+    outer: Shift,
+    shift: Shift,
+    slots: usize,
+) -> Result<PushInner, Refusal>
     ensures { (result ≡ pushed inner outer shift slots) × (told_pushed result ≡ checked (valid inner && (valid outer && valid shift)) (values (push_valid inner outer shift slots))) }
 {
-    if !inner.is_valid() {
-        return Pushed::Refused;
-    }
-    if !outer.is_valid() {
-        return Pushed::Refused;
-    }
-    if !shift.is_valid() {
-        return Pushed::Refused;
-    }
-    Pushed::Is(valid::push_inner(inner, outer, shift, slots))
+    Ok(valid::push_inner(inner.checked()?, outer.checked()?, shift.checked()?, slots))
 }

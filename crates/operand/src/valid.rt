@@ -1,9 +1,8 @@
-// push_inner of shifts that are known to be valid, and operands that are known to lie within their store. Follows
-// frontend/src/lower/operand.rs.
+// push_inner of shifts that are known to be valid, and the number of an operand. Follows frontend/src/lower/operand.rs.
 ghost use Rattle.std.specs.Prelude.{◌≡◌, ◌<◌};
 ghost use Rattle.shift.specs.Shifts.{Valid};
 ghost use Rattle.operand.specs.Push.{lone_of, fold_outer, push_valid, keep_both};
-ghost use Rattle.operand.specs.Numbers.{Within, terms_at, operand_number};
+ghost use Rattle.operand.specs.Numbers.{operand_number};
 
 use crate::{PushInner, WireOperand};
 use shift::{Composition, Shift};
@@ -24,8 +23,7 @@ fn fold_outer(merged: Shift, outer: Shift) -> PushInner
     requires { Valid merged × Valid outer }
     ensures { result ≡ fold_outer merged outer }
 {
-    let c = shift::valid::compose(merged, outer);
-    match c {
+    match shift::valid::compose(merged, outer) {
         Composition::Single(s) => lone(s),
         Composition::Zero => PushInner::Zero,
         Composition::Pair => PushInner::Seq(merged, outer),
@@ -36,38 +34,23 @@ fn fold_outer(merged: Shift, outer: Shift) -> PushInner
 fn keep_both(inner: Shift, outer: Shift, shift: Shift, slots: usize) -> PushInner
     ensures { result ≡ keep_both inner outer shift slots }
 {
-    if slots < 2 {
-        return PushInner::OverBudget;
+    if 2 <= slots && outer.is_identity() {
+        PushInner::Seq(shift, inner)
+    } else {
+        PushInner::OverBudget
     }
-    if outer.is_identity() {
-        return PushInner::Seq(shift, inner);
-    }
-    PushInner::OverBudget
 }
 
+#[tactic(auto, using(crate::proofs::Pushes::merged_valid), unfolding(crate::specs::Push::push_valid))]
 pub fn push_inner(inner: Shift, outer: Shift, shift: Shift, slots: usize) -> PushInner
     requires { Valid inner × Valid outer × Valid shift }
     ensures { result ≡ push_valid inner outer shift slots }
 {
-    let c = shift::valid::compose(shift, inner);
-    match c {
+    match shift::valid::compose(shift, inner) {
         Composition::Single(merged) => fold_outer(merged, outer),
         Composition::Zero => PushInner::Zero,
         Composition::Pair => keep_both(inner, outer, shift, slots),
     }
-}
-
-// The terms of an operand, as a part of whichever store holds them.
-pub fn as_slice<'a>(operand: WireOperand, old: &'a [u64], new: &'a [u64]) -> &'a [u64]
-    requires { Within old.now new.now operand }
-    ensures { result.now ≡ terms_at old.now new.now operand }
-{
-    let start = operand.start as usize;
-    let end = start + operand.len as usize;
-    if operand.new {
-        return &new[start..end];
-    }
-    &old[start..end]
 }
 
 // The number that stands for an operand in a list.

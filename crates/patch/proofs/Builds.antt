@@ -1,14 +1,17 @@
 -- Laws of operands that are rebuilt one after the other, one step at a time. Assumes nothing.
-use mathlib.Core.Path.{◌≡◌, refl, sym, ap, ◌∙◌, subst}
-use Prim.Native.Nat.{ℕ, zero, suc, ◌+◌, ◌*◌, ◌-◌, ◌≤◌, ◌<◌}
+use mathlib.Core.Path.{◌≡◌, refl, sym, ap, ap₂, ◌∙◌}
+use Prim.Native.Nat.{ℕ, zero, suc, ◌+◌, ◌*◌, ◌-◌, ◌/◌, ◌≤◌, ◌<◌}
 use mathlib.Core.Bool.{Bool, true, false, cond}
 use mathlib.Core.List.{List, [], ◌∷◌, ◌++◌, map}
 use mathlib.Core.Option.{Option, none, some}
 use native.Mathlib.Omega.{arith}
 use native.Mathlib.Nat.{mul-suc}
+use Rattle.std.proofs.Math.Nat.{div-eq_of_lt, add-div_left, mul-div_cancel_left}
+use Rattle.std.proofs.Math.Seq.{take-append_seam, drop-append_seam}
+use Rattle.std.proofs.lemmas.List.{length-append, take-take, drop-take}
+use lib.Seq.{length-take-le}
 use lib.Dec.{ltb, eqb}
 use lib.ListN.{length, take, drop, get_or, set, drop_of_length-le}
-use lib.Seq.{drop-drop, take-add}
 use borrow.Author.Tests.{lt-ltb, le-ltb}
 use Rattle.shift.specs.declared.Shift.{Shift}
 use Rattle.shift.specs.Shifts.{shift_at}
@@ -16,16 +19,15 @@ use Rattle.operand.specs.declared.PushInner.{PushInner}
 use Rattle.operand.specs.declared.PushInner.TheVariants.{Seq, Zero, OverBudget}
 use Rattle.operand.specs.Push.{push_valid}
 use Rattle.operand.specs.Numbers.{Term, Operand, operand_of, term_number}
-use Rattle.lower.specs.Lists.{All, keep, joined}
+use Rattle.lower.specs.Lists.{keep, joined}
 use Rattle.lower.specs.declared.Sizes.{Sizes}
-use Rattle.lower.specs.Stores.{rows_of}
+use Rattle.lower.specs.Stores.{chunks, rows_of}
 use Rattle.lower.proofs.Firsts.{drop_step}
-use Rattle.lower.proofs.Laws.{all_left, all_right}
 use Rattle.legraph.specs.Walked.{rhs_in}
 use Rattle.patch.specs.declared.Cursor.{Cursor}
 use Rattle.patch.specs.Steps.{Written, wrote, filled, put, write_down, write_terms}
-use Rattle.patch.specs.Spelling.{Source, in_place_lem, dead, spelt, spell_under, spell_by, spell, row_names}
-use Rattle.patch.specs.Building.{Built, built, handle, build_one, build_all, row_in, rows_in_lem, committed_at, commits_in, roots_in, operands_in}
+use Rattle.patch.specs.Spelling.{Source, in_place, dead, spelt, spell_under, spell_by, spell, row_names}
+use Rattle.patch.specs.Building.{Built, built, handle, build_one, build_all, row_in, rows_in, committed_at, commits_in, roots_in, operands_in}
 
 -- ---- writing never lowers the count
 
@@ -70,7 +72,7 @@ module _ (go : Term → Written → Written) (grows : Grows go) where
 pub spell-grows : (s : Source) (n : ℕ) (t : Term) (m : Written) → m.count ≤ (spell s n t m).count
 unfolding spell
 spell-grows s zero t m = cond-grows m _ m.full (put-grows t m)
-spell-grows s (suc n) t m = cond-grows m _ m.full (by-grows (spell s n) (λ u l. spell-grows s n u l) s t (in_place_lem s t.wire) m)
+spell-grows s (suc n) t m = cond-grows m _ m.full (by-grows (spell s n) (λ u l. spell-grows s n u l) s t (in_place s t.wire) m)
 
 -- where a cursor is told by what was written, it is no lower
 pub cursor_grows : (s : Source) (n : ℕ) (o : Operand) (l k : List ℕ) (a c : Cursor) → spelt k c ≡ write_terms (spell s n) o (spelt l a) → a.count ≤ c.count
@@ -121,12 +123,12 @@ row_passed s r e = rw e
 pub row-taken : (s : Source) (r : List Operand) → row_names s.table r ≡ true → row_in s r ≡ r
 row-taken s r e = rw e
 
-rows_none : (s : Source) (k : ℕ) (hs : List ℕ) → rows_in_lem s k 0 hs ≡ []
-unfolding rows_in_lem
+rows_none : (s : Source) (k : ℕ) (hs : List ℕ) → rows_in s k 0 hs ≡ []
+unfolding rows_in
 rows_none s k hs = refl
 
-rows_more : (s : Source) (k n : ℕ) (hs : List ℕ) → rows_in_lem s k (suc n) hs ≡ row_in s (map (operand_of s.old s.new) (take k hs)) ++ rows_in_lem s k n (drop k hs)
-unfolding rows_in_lem
+rows_more : (s : Source) (k n : ℕ) (hs : List ℕ) → rows_in s k (suc n) hs ≡ row_in s (map (operand_of s.old s.new) (take k hs)) ++ rows_in s k n (drop k hs)
+unfolding rows_in
 rows_more s k n hs = go (row_names s.table (map (operand_of s.old s.new) (take k hs)))
   where
     go : (b : Bool)
@@ -135,41 +137,43 @@ rows_more s k n hs = go (row_names s.table (map (operand_of s.old s.new) (take k
     go true = refl
     go false = refl
 
--- n rows are left, from the place i on
-pub rows_end : (go : Term → Written → Written) (s : Source) (k n i : ℕ) (hs : List ℕ) (b : Built) → n ≤ 0 → build_all go (rows_in_lem s k n (drop i hs)) b ≡ b
-rows_end go s k n i hs b h = let e : n ≡ 0 = omega arith in rw (e, rows_none s k (drop i hs)) (build_none go b)
+-- as many rows as there are places for
+module _ (go : Term → Written → Written) (s : Source) (k : ℕ) (wide : 0 < k) (b : Built) where
+  pub rows_end : (rest : List ℕ) → length rest < k → build_all go (rows_in s k (length rest / k) rest) b ≡ b
+  rows_end rest h = rw (div-eq_of_lt h, rows_none s k rest) (build_none go b)
 
-module _ (k n i : ℕ) (hs : List ℕ) (some_left : 0 < n) where
-  one_more : n ≡ suc (n - 1)
-  one_more = omega arith
+  pub rows_step : (rest row left : List ℕ) → rest ≡ row ++ left → length row ≡ k
+      → build_all go (rows_in s k (length rest / k) rest) b
+      ≡ build_all go (rows_in s k (length left / k) left) (build_all go (row_in s (map (operand_of s.old s.new) row)) b)
+  rows_step rest row left e h =
+      let n : length rest / k ≡ suc (length left / k) = ap (λ (l : List ℕ). length l / k) e ∙ ap (λ (j : ℕ). j / k) (length-append row left ∙ ap (λ (j : ℕ). j + length left) h) ∙ add-div_left (length left) wide ∙ omega arith in
+      let first : take k rest ≡ row = ap₂ take (sym h) e ∙ take-append_seam row left in
+      let others : drop k rest ≡ left = ap₂ drop (sym h) e ∙ drop-append_seam row left in
+      ap (λ (j : ℕ). build_all go (rows_in s k j rest) b) n
+      ∙ ap (λ (os : List Operand). build_all go os b) (rows_more s k (length left / k) rest)
+      ∙ build_both go (row_in s (map (operand_of s.old s.new) (take k rest))) (rows_in s k (length left / k) (drop k rest)) b
+      ∙ ap₂ (λ (x y : List ℕ). build_all go (rows_in s k (length left / k) y) (build_all go (row_in s (map (operand_of s.old s.new) x)) b)) first others
 
-  times : k * n ≡ k + k * (n - 1)
-  times = ap (λ (j : ℕ). k * j) one_more ∙ mul-suc k (n - 1) ∙ omega arith
+-- a list that is cut to n rows
+chunks_cut : (k n : ℕ) (hs : List ℕ) → chunks k n (take (k * n) hs) ≡ chunks k n hs
+chunks_cut k zero hs = refl
+chunks_cut k (suc n) hs =
+    let e : k * suc n ≡ k + k * n = mul-suc k n ∙ omega arith in
+    ap (λ (m : ℕ). take k (take m hs) ∷ chunks k n (drop k (take m hs))) e
+    ∙ ap₂ (λ (x y : List ℕ). x ∷ chunks k n y) (take-take k (k + k * n) hs (omega arith)) (drop-take k (k * n) hs)
+    ∙ ap (λ (l : List (List ℕ)). take k hs ∷ l) (chunks_cut k n (drop k hs))
 
-  part : take (i + k - i) (drop i hs) ≡ take k (drop i hs)
-  part = let e : i + k - i ≡ k = omega arith in rw e
+rows_cut : (s : Source) (k n : ℕ) (hs : List ℕ) → 0 < k → k * n ≤ length hs → rows_in s k (length (take (k * n) hs) / k) (take (k * n) hs) ≡ rows_in s k n hs
+unfolding rows_in
+rows_cut s k n hs wide there =
+    let as_many : length (take (k * n) hs) / k ≡ n = ap (λ (j : ℕ). j / k) (length-take-le (k * n) hs there) ∙ mul-div_cancel_left n wide in
+    ap (λ (j : ℕ). joined (keep (row_names s.table) (rows_of (operand_of s.old s.new) k j (take (k * n) hs)))) as_many
+    ∙ ap (λ (ls : List (List ℕ)). joined (keep (row_names s.table) (map (map (operand_of s.old s.new)) ls))) (chunks_cut k n hs)
 
-  next : drop k (drop i hs) ≡ drop (i + k) hs
-  next = drop-drop k i hs
-
-  pub rows_room : i + k * n ≤ length hs → i + k + k * (n - 1) ≤ length hs
-  rows_room h = omega (arith, times)
-
-  pub rows_first : (P : ℕ → Type 0) → All P (take (k * n) (drop i hs)) → All P (take (i + k - i) (drop i hs))
-  rows_first P h = rw part (all_left P (take k (drop i hs)) (take (k * (n - 1)) (drop k (drop i hs))) (subst (All P) (rw times (take-add k (k * (n - 1)) (drop i hs))) h))
-
-  pub rows_rest : (P : ℕ → Type 0) → All P (take (k * n) (drop i hs)) → All P (take (k * (n - 1)) (drop (i + k) hs))
-  rows_rest P h = subst (λ (l : List ℕ). All P (take (k * (n - 1)) l)) next (all_right P (take k (drop i hs)) (take (k * (n - 1)) (drop k (drop i hs))) (subst (All P) (rw times (take-add k (k * (n - 1)) (drop i hs))) h))
-
-  pub rows_step : (go : Term → Written → Written) (s : Source) (b : Built)
-      → build_all go (rows_in_lem s k n (drop i hs)) b
-      ≡ build_all go (rows_in_lem s k (n - 1) (drop (i + k) hs)) (build_all go (row_in s (map (operand_of s.old s.new) (take (i + k - i) (drop i hs)))) b)
-  rows_step go s b =
-      ap (λ (j : ℕ). build_all go (rows_in_lem s k j (drop i hs)) b) one_more
-      ∙ ap (λ (os : List Operand). build_all go os b) (rows_more s k (n - 1) (drop i hs))
-      ∙ build_both go (row_in s (map (operand_of s.old s.new) (take k (drop i hs)))) (rows_in_lem s k (n - 1) (drop k (drop i hs))) b
-      ∙ ap (λ (l : List ℕ). build_all go (rows_in_lem s k (n - 1) l) (build_all go (row_in s (map (operand_of s.old s.new) (take k (drop i hs)))) b)) next
-      ∙ ap (λ (l : List ℕ). build_all go (rows_in_lem s k (n - 1) (drop (i + k) hs)) (build_all go (row_in s (map (operand_of s.old s.new) l)) b)) (sym part)
+pub build_cut : (go : Term → Written → Written) (s : Source) (k n m : ℕ) (hs : List ℕ) (b : Built) → 0 < k → k * n ≤ length hs → m ≡ k * n
+    → build_all go (rows_in s k (length (take m hs) / k) (take m hs)) b ≡ build_all go (rows_in s k n hs) b
+build_cut go s k n m hs b wide there e =
+    ap (λ (j : ℕ). build_all go (rows_in s k (length (take j hs) / k) (take j hs)) b) e ∙ ap (λ (os : List Operand). build_all go os b) (rows_cut s k n hs wide there)
 
 -- ---- committed definitions
 
@@ -200,22 +204,22 @@ module _ (go : Term → Written → Written) (s : Source) (w n : ℕ) (b : Built
 
 module _ (go : Term → Written → Written) (s : Source) (z : Sizes) (ands imuls bmuls zeros : List ℕ) (b : Built) where
   pub roots_are : build_all go (roots_in s z ands imuls bmuls zeros) b
-      ≡ build_all go (rows_in_lem s 1 z.zeros zeros) (build_all go (rows_in_lem s 6 z.bmuls bmuls) (build_all go (rows_in_lem s 4 z.imuls imuls) (build_all go (rows_in_lem s 3 z.ands ands) b)))
+      ≡ build_all go (rows_in s 1 z.zeros zeros) (build_all go (rows_in s 6 z.bmuls bmuls) (build_all go (rows_in s 4 z.imuls imuls) (build_all go (rows_in s 3 z.ands ands) b)))
   unfolding roots_in
   roots_are =
-      let a : List Operand = rows_in_lem s 3 z.ands ands in
-      let i : List Operand = rows_in_lem s 4 z.imuls imuls in
-      let m : List Operand = rows_in_lem s 6 z.bmuls bmuls in
-      let o : List Operand = rows_in_lem s 1 z.zeros zeros in
+      let a : List Operand = rows_in s 3 z.ands ands in
+      let i : List Operand = rows_in s 4 z.imuls imuls in
+      let m : List Operand = rows_in s 6 z.bmuls bmuls in
+      let o : List Operand = rows_in s 1 z.zeros zeros in
       build_both go a (i ++ (m ++ o)) b ∙ build_both go i (m ++ o) (build_all go a b) ∙ build_both go m o (build_all go i (build_all go a b))
 
   pub operands_are : build_all go (operands_in s z ands imuls bmuls zeros) b ≡ build_all go (commits_in s 0 z.wires) (build_all go (roots_in s z ands imuls bmuls zeros) b)
   unfolding operands_in
   operands_are =
-      let a : List Operand = rows_in_lem s 3 z.ands ands in
-      let i : List Operand = rows_in_lem s 4 z.imuls imuls in
-      let m : List Operand = rows_in_lem s 6 z.bmuls bmuls in
-      let o : List Operand = rows_in_lem s 1 z.zeros zeros in
+      let a : List Operand = rows_in s 3 z.ands ands in
+      let i : List Operand = rows_in s 4 z.imuls imuls in
+      let m : List Operand = rows_in s 6 z.bmuls bmuls in
+      let o : List Operand = rows_in s 1 z.zeros zeros in
       let d : List Operand = commits_in s 0 z.wires in
       build_both go a (i ++ (m ++ (o ++ d))) b
       ∙ build_both go i (m ++ (o ++ d)) (build_all go a b)

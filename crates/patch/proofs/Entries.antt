@@ -17,11 +17,10 @@ use Rattle.operand.specs.Push.{push_valid}
 use Rattle.operand.proofs.Stored.{term_there}
 use Rattle.alive.specs.Masks.{pulled}
 use Rattle.legraph.specs.Walked.{rhs_in}
-use Rattle.patch.specs.declared.Folded.{Folded}
-use Rattle.patch.specs.declared.Folded.TheVariants.{Under, Nothing}
+use Rattle.std.specs.Prelude.{Option as Answer, Some, None}
 use Rattle.patch.specs.Expansion.{Within}
 use Rattle.patch.specs.Steps.{Written, wrote, put, write_down}
-use Rattle.patch.specs.Spelling.{Source, in_place_lem, inlined_number, inner_of, outer_of, Over, folded_as, spell_under, spell, Sees, look, laid_by, laid, terms_in, looks_from, looks_count, Looks, Opened, Entered}
+use Rattle.patch.specs.Spelling.{Source, in_place, inlined_number, inner_of, outer_of, Over, folded_as, spell_under, spell, Sees, look, laid_by, laid, terms_in, looks_from, looks_count, Looks, Opened, Entered}
 use Rattle.patch.proofs.Spells.{place_none, Placed, place_some, spell_stands, spell_opens, some_left, within-below, term_read}
 use Rattle.patch.proofs.Passing.{passed_all}
 use Rattle.patch.proofs.Folds.{beneath, over-plus, fold_nothing, Leaves, fold_leaves, leaves_over, leaves_down, sees_leaves, seen_alive}
@@ -109,11 +108,11 @@ module _ (s : Source) (t e k below : ℕ) (h : Entered s t e k below) (n : ℕ) 
   pub entered_valid : valid_number n ≡ true
   entered_valid = subst (λ (x : ℕ). valid_number x ≡ true) (sym number) h.shift
 
-  module _ (over : ℕ) (ov : Over over) (sees : Sees k (inner_of over) (outer_of over)) (f : Folded) (r : f ≡ folded_as (push_valid (inner_of over) (outer_of over) (shift_at n) 2)) where
+  module _ (over : ℕ) (ov : Over over) (sees : Sees k (inner_of over) (outer_of over)) (f : Answer ℕ) (r : f ≡ folded_as (push_valid (inner_of over) (outer_of over) (shift_at n) 2)) where
     folds : folded_as (push_valid (inner_of over) (outer_of over) (inner_of t) 2) ≡ f
     folds = ap (λ (x : ℕ). folded_as (push_valid (inner_of over) (outer_of over) (shift_at x) 2)) (sym number) ∙ sym r
 
-    pub entered_nothing : f ≡ Nothing → (m : Written) → m ≡ write_down (spell s below) (term_of t).wire (push_valid (inner_of over) (outer_of over) (inner_of t) 2) m
+    pub entered_nothing : f ≡ None → (m : Written) → m ≡ write_down (spell s below) (term_of t).wire (push_valid (inner_of over) (outer_of over) (inner_of t) 2) m
     entered_nothing z m = sym (fold_nothing (spell s below) (term_of t).wire m (push_valid (inner_of over) (outer_of over) (inner_of t) 2) (folds ∙ z))
 
     hi : Valid (inner_of over)
@@ -125,7 +124,7 @@ module _ (s : Source) (t e k below : ℕ) (h : Entered s t e k below) (n : ℕ) 
     hs : Valid (inner_of t)
     hs = valid_at (term_of t).inner h.shift
 
-    module _ (x : ℕ) (g : f ≡ Under x) where
+    module _ (x : ℕ) (g : f ≡ Some x) where
       leaves : Leaves (inner_of over) (outer_of over) (inner_of t) x
       leaves = fold_leaves (inner_of over) (outer_of over) (inner_of t) x hi ho hs (folds ∙ g)
 
@@ -140,7 +139,7 @@ module _ (s : Source) (t e k below : ℕ) (h : Entered s t e k below) (n : ℕ) 
       entered_stands w is low m =
           let z : w ≡ (term_of t).wire = is ∙ entry_wire s.table s.decisions t h.nodes e h.entry low in
           ap (λ (u : Term). put u m) (over-plus x w entered_over.0 (omega (arith, is)))
-          ∙ spell_stands s below m (beneath w x) (subst (λ (y : ℕ). in_place_lem s y ≡ none) (sym z) (place_none s (term_of t).wire (entry-none s.table s.decisions t h.nodes e h.entry low)))
+          ∙ spell_stands s below m (beneath w x) (subst (λ (y : ℕ). in_place s y ≡ none) (sym z) (place_none s (term_of t).wire (entry-none s.table s.decisions t h.nodes e h.entry low)))
           ∙ leaves_down (inner_of over) (outer_of over) (inner_of t) x leaves (spell s below) w (term_of t).wire z m
 
       pub entered_goes : (w : ℕ) → w ≡ (term_of e).wire → 4294967296 ≤ e → get_or s.alive w 0 < 2 ^ 64 → (m : Written)
@@ -187,8 +186,8 @@ module _ (s : Source) (d below : ℕ) (op : Opened s d below) (ms es : List ℕ)
   valid_in : (j : ℕ) → j < length (terms_in s d) → valid_number (term_of (get_or (terms_in s d) j 0)).inner ≡ true
   valid_in j h = term_read (λ (u : Term). valid_number u.inner ≡ true) s.old s.new s.rhss (terms_in s d) d j refl op.opens.shifts h
 
-  deep_in : (j : ℕ) → j < length (terms_in s d) → Within (in_place_lem s) below (term_of (get_or (terms_in s d) j 0)).wire
-  deep_in j h = term_read (λ (u : Term). Within (in_place_lem s) below u.wire) s.old s.new s.rhss (terms_in s d) d j refl op.deep h
+  deep_in : (j : ℕ) → j < length (terms_in s d) → Within (in_place s) below (term_of (get_or (terms_in s d) j 0)).wire
+  deep_in j h = term_read (λ (u : Term). Within (in_place s) below u.wire) s.old s.new s.rhss (terms_in s d) d j refl op.deep h
 
   -- an entry of which the mask takes in something
   pub entered_at : (k j : ℕ) → j < length es → (bit_and (get_or ms j 0) k ≡ 0 → ⊥) → Entered s (get_or (terms_in s d) j 0) (get_or es j 0) k below

@@ -25,8 +25,7 @@ use Rattle.alive.proofs.Ors.{same_by}
 use Rattle.alive.proofs.Pulls.{pulled_lt, pulled-right}
 use Rattle.alive.proofs.Living.{fold_says}
 use Rattle.commit_set.proofs.Valids.{fold_valid}
-use Rattle.patch.specs.declared.Folded.{Folded}
-use Rattle.patch.specs.declared.Folded.TheVariants.{Under, Nothing}
+use Rattle.std.specs.Prelude.{Option, Some, None}
 use Rattle.patch.specs.Expansion.{under}
 use Rattle.patch.specs.Steps.{Written, write_down}
 use Rattle.patch.specs.Spelling.{inner_of, outer_of, bare, Over, folded_as, Sees, look, look_by, inlined_number}
@@ -88,21 +87,21 @@ module _ (i o s : Shift) (p : o.amount ≡ 0) where
   unfolding push_valid
   fold_kept q = ap (first_fold i o s 2) (still_first s i q) ∙ fold_around i o p
 
-pub lone-none : (s : ℕ) → s % 64 ≡ 0 → Under 0 ≡ folded_as (lone_of (shift_at s))
+pub lone-none : (s : ℕ) → s % 64 ≡ 0 → Some 0 ≡ folded_as (lone_of (shift_at s))
 lone-none s e = rw (eq-eqb (s % 64) 0 e)
 
-pub lone-some : (s : ℕ) → valid_number s ≡ true → (s % 64 ≡ 0 → ⊥) → Under (65536 * s) ≡ folded_as (lone_of (shift_at s))
+pub lone-some : (s : ℕ) → valid_number s ≡ true → (s % 64 ≡ 0 → ⊥) → Some (65536 * s) ≡ folded_as (lone_of (shift_at s))
 lone-some s v n =
     let e : 65536 * s ≡ 65536 * number_of (shift_at s) + 4294967296 * 0 = omega (arith, number_there s v) in
-    rw (ne_eqb (s % 64) 0 n) (ap Under e)
+    rw (ne_eqb (s % 64) 0 n) (ap Some e)
 
 -- ---- what a fold leaves
 
-abbrev value : Folded → ℕ
-value (Under x) = suc x
-value Nothing = 0
+abbrev value : Option ℕ → ℕ
+value (Some x) = suc x
+value None = 0
 
-pub fold_nothing : (go : Term → Written → Written) (w : ℕ) (m : Written) (p : PushInner) → folded_as p ≡ Nothing → write_down go w p m ≡ m
+pub fold_nothing : (go : Term → Written → Written) (w : ℕ) (m : Written) (p : PushInner) → folded_as p ≡ None → write_down go w p m ≡ m
 fold_nothing go w m (Seq a b) e = let z = ap value e in absurd (omega (arith, z))
 fold_nothing go w m Zero e = refl
 fold_nothing go w m OverBudget e = refl
@@ -115,10 +114,10 @@ pub record Leaves (i o s : Shift) (x : ℕ) : Type 0 where
   pub outside_valid : Valid outside
   pub term : term_of x ≡ under 0 inside outside
 
-pub fold_leaves : (i o s : Shift) (x : ℕ) → Valid i → Valid o → Valid s → folded_as (push_valid i o s 2) ≡ Under x → Leaves i o s x
+pub fold_leaves : (i o s : Shift) (x : ℕ) → Valid i → Valid o → Valid s → folded_as (push_valid i o s 2) ≡ Some x → Leaves i o s x
 fold_leaves i o s x hi ho hs e = go (push_valid i o s 2) refl e
   where
-    go : (p : PushInner) → push_valid i o s 2 ≡ p → folded_as p ≡ Under x → Leaves i o s x
+    go : (p : PushInner) → push_valid i o s 2 ≡ p → folded_as p ≡ Some x → Leaves i o s x
     go (Seq a b) q z =
         let v = fold_valid i o s a b hi ho hs q in
         let y = ap value z in

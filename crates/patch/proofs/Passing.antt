@@ -23,7 +23,7 @@ use Rattle.alive.proofs.Pulls.{pulled_lt, pulled-right}
 use Rattle.alive.proofs.Living.{fold_says, seq_alive}
 use Rattle.patch.specs.Expansion.{under, Within}
 use Rattle.patch.specs.Steps.{Written, write_down}
-use Rattle.patch.specs.Spelling.{Source, in_place_lem, inlined_number, spell_under, spell, Sees, look_by, look}
+use Rattle.patch.specs.Spelling.{Source, in_place, inlined_number, spell_under, spell, Sees, look_by, look}
 use Rattle.patch.proofs.Spells.{place_some, spell-dead, under_step}
 
 -- ---- masks
@@ -86,7 +86,7 @@ clear_more l k from i f e j a b = elim (dec_lt j i) [ yes h ↦ f j a h | no h �
 
 module _ (s : Source) (small : (e : ℕ) → get_or s.alive e 0 < 2 ^ 64) (n k : ℕ) (i o : Shift) (hi : Valid i) (ho : Valid o) (sees : Sees k i o) where
   -- a term whose mask has nothing in common with k writes nothing
-  pub passed : (u : Term) → valid_number u.inner ≡ true → Within (in_place_lem s) n u.wire → bit_and (look s.table s.decisions s.alive u) k ≡ 0 → (m : Written)
+  pub passed : (u : Term) → valid_number u.inner ≡ true → Within (in_place s) n u.wire → bit_and (look s.table s.decisions s.alive u) k ≡ 0 → (m : Written)
       → write_down (spell s n) u.wire (push_valid i o (shift_at u.inner) 2) m ≡ m
   unfolding look
   passed u v deep e m = by (inlined_number s.decisions (get_or s.table u.wire 0)) refl e (push_valid i o f 2) refl
@@ -110,7 +110,7 @@ module _ (s : Source) (small : (e : ℕ) → get_or s.alive e 0 < 2 ^ 64) (n k :
           ∙ eq-eqb (apply_of c (apply_of a w)) 0 (t.2 w (small d) ∙ (sees.1 (apply_of f w) (shifted_lt f hf w (small d))).0 z)))
 
   -- so do all that stand before the place r
-  pub passed_all : (ts : List ℕ) → ((j : ℕ) → j < length ts → valid_number (term_of (get_or ts j 0)).inner ≡ true) → ((j : ℕ) → j < length ts → Within (in_place_lem s) n (term_of (get_or ts j 0)).wire)
+  pub passed_all : (ts : List ℕ) → ((j : ℕ) → j < length ts → valid_number (term_of (get_or ts j 0)).inner ≡ true) → ((j : ℕ) → j < length ts → Within (in_place s) n (term_of (get_or ts j 0)).wire)
       → (more j : ℕ) → j + more ≤ length ts → ((l : ℕ) → j ≤ l → l < j + more → bit_and (look s.table s.decisions s.alive (term_of (get_or ts l 0))) k ≡ 0) → (m : Written)
       → spell_under (spell s n) i o (map term_of (drop (j + more) ts)) m ≡ spell_under (spell s n) i o (map term_of (drop j ts)) m
   passed_all ts v deep zero j h f m = let z : j + 0 ≡ j = omega arith in ap (λ (x : ℕ). spell_under (spell s n) i o (map term_of (drop x ts)) m) z

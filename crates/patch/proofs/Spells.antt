@@ -26,7 +26,7 @@ use Rattle.legraph.specs.Walked.{rhs_in}
 use Rattle.patch.specs.declared.Cursor.{Cursor}
 use Rattle.patch.specs.Expansion.{under, Within}
 use Rattle.patch.specs.Steps.{Written, wrote, put, write_down, write_terms}
-use Rattle.patch.specs.Spelling.{Source, place_of, in_place_lem, inlined_number, alive_at, dead, spelt, cursor_at, spelt_to, spell_under, spell_by, spell}
+use Rattle.patch.specs.Spelling.{Source, place_of, in_place, inlined_number, alive_at, dead, spelt, cursor_at, spelt_to, spell_under, spell_by, spell}
 
 pub number-low : (s : Shift) → Valid s → number_of s < 512
 number-low s h = valid-low (number_of s) (number-valid s h)
@@ -89,8 +89,8 @@ below_room t l n h =
     ∙ ap (put t) (sym (to_live l n (omega arith)))
 
 -- the node that is found tells what is put in the wire's place
-pub place_none : (s : Source) (w : ℕ) → inlined_number s.decisions (get_or s.table w 0) ≡ 0 → in_place_lem s w ≡ none
-unfolding in_place_lem
+pub place_none : (s : Source) (w : ℕ) → inlined_number s.decisions (get_or s.table w 0) ≡ 0 → in_place s w ≡ none
+unfolding in_place
 place_none s w e = go (get_or s.table w 0) e
   where
     go : (x : ℕ) → inlined_number s.decisions x ≡ 0 → place_of s x ≡ none
@@ -103,10 +103,10 @@ place_none s w e = go (get_or s.table w 0) e
 
 pub record Placed (s : Source) (w d : ℕ) : Type 0 where
   pub node : get_or s.table w 0 ≡ suc d
-  pub put_there : in_place_lem s w ≡ some (rhs_in s.old s.new s.rhss d)
+  pub put_there : in_place s w ≡ some (rhs_in s.old s.new s.rhss d)
 
 pub place_some : (s : Source) (w d : ℕ) → inlined_number s.decisions (get_or s.table w 0) ≡ suc d → Placed s w d
-unfolding in_place_lem
+unfolding in_place
 place_some s w d e = go (get_or s.table w 0) refl e
   where
     go : (x : ℕ) → get_or s.table w 0 ≡ x → inlined_number s.decisions x ≡ suc d → Placed s w d
@@ -141,7 +141,7 @@ module _ (s : Source) (n : ℕ) (m : Written) where
 
 -- nothing is done once a term found no room, so each law of a term holds then too
 module _ (s : Source) (n : ℕ) (m : Written) (t : Term) where
-  pub spell_stands : in_place_lem s t.wire ≡ none → put t m ≡ spell s n t m
+  pub spell_stands : in_place s t.wire ≡ none → put t m ≡ spell s n t m
   unfolding spell spell_by put
   spell_stands e = go m.full refl
     where
@@ -153,18 +153,18 @@ module _ (s : Source) (n : ℕ) (m : Written) (t : Term) where
       go true f = (rw f) ∙ spell_full s n m t f
       go false f = live f n
 
-  module _ (d : ℕ) (p : Placed s t.wire d) (deep : Within (in_place_lem s) n t.wire) where
+  module _ (d : ℕ) (p : Placed s t.wire d) (deep : Within (in_place s) n t.wire) where
     pub some_left : 0 < n
     some_left = go n deep
       where
-        go : (k : ℕ) → Within (in_place_lem s) k t.wire → 0 < k
+        go : (k : ℕ) → Within (in_place s) k t.wire → 0 < k
         go zero x = let z : none ≡ some (rhs_in s.old s.new s.rhss d) = sym x ∙ p.put_there in let y : ◌≡◌ {A = ℕ} 0 1 = cc in absurd (omega arith)
         go (suc k) x = omega arith
 
-    pub within-below : All (λ (u : Term). Within (in_place_lem s) (n - 1) u.wire) (rhs_in s.old s.new s.rhss d)
+    pub within-below : All (λ (u : Term). Within (in_place s) (n - 1) u.wire) (rhs_in s.old s.new s.rhss d)
     within-below = go n deep
       where
-        go : (k : ℕ) → Within (in_place_lem s) k t.wire → All (λ (u : Term). Within (in_place_lem s) (k - 1) u.wire) (rhs_in s.old s.new s.rhss d)
+        go : (k : ℕ) → Within (in_place s) k t.wire → All (λ (u : Term). Within (in_place s) (k - 1) u.wire) (rhs_in s.old s.new s.rhss d)
         go zero x = let z : none ≡ some (rhs_in s.old s.new s.rhss d) = sym x ∙ p.put_there in let y : ◌≡◌ {A = ℕ} 0 1 = cc in absurd (omega arith)
         go (suc k) x =
             let e : suc k - 1 ≡ k = omega arith in
@@ -200,7 +200,7 @@ module _ (s : Source) (n : ℕ) (m : Written) (t : Term) where
             let e : suc k - 1 ≡ k = omega arith in
             ap (λ (j : ℕ). spell_under (spell s j) (shift_at t.inner) (shift_at t.outer) rhs m) e
             ∙ sym (
-            ap (λ (b : Bool). cond b m (spell_by s (spell s k) t (in_place_lem s t.wire) m)) f
+            ap (λ (b : Bool). cond b m (spell_by s (spell s k) t (in_place s t.wire) m)) f
             ∙ ap (λ (q : Option Operand). spell_by s (spell s k) t q m) p.put_there
             ∙ ap (λ (b : Bool). cond b m (spell_under (spell s k) (shift_at t.inner) (shift_at t.outer) rhs m)) (dead-is ∙ h)
             )

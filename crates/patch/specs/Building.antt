@@ -4,8 +4,9 @@
 --   built_by            the same, by what the program carries
 --   build_one go o      one operand more: go writes a term. Where the list is full nothing is done
 --   build_all go os     the operands that are left
+--   Builds s n os x y   so from x to y, each term spelt, no chain longer than n, and the store is never overrun
 --   Rooted             what is asked of an operand that is rebuilt: it stands in its store, and its shifts are valid
---   rows_in_lem             the operands of the rows that name a defined wire, by the table
+--   rows_in             the operands of the rows that name a defined wire, by the table
 --   committed_at        the right side of a node that is a committed definition; commits_in, of the wires w, w + 1, .., n of them
 --   roots_in            the operands of the constraints that are rebuilt; operands_in, all operands that are rebuilt, in their order
 --   Ready s n          right sides can be read, and no chain of definitions has more than n links
@@ -24,7 +25,7 @@ use Rattle.legraph.specs.Walked.{rhs_in}
 use Rattle.patch.specs.declared.Progress.{Progress}
 use Rattle.patch.specs.Steps.{Written, write_terms}
 use Rattle.patch.specs.Expansion.{Within}
-use Rattle.patch.specs.Spelling.{Source, in_place_lem, spelt, row_names, Readable}
+use Rattle.patch.specs.Spelling.{Source, in_place, spelt, spell, row_names, Readable}
 
 pub record Built : Type 0 where
   pub wrote : Written
@@ -51,6 +52,9 @@ unfoldable pub build_all : (Term → Written → Written) → List Operand → B
 build_all go [] b = b
 build_all go (o ∷ os) b = build_all go os (build_one go o b)
 
+abbrev pub Builds : Source → ℕ → List Operand → Built → Built → Type 0
+Builds s n os x y = (y ≡ build_all (spell s n) os x) × (y.wrote.count ≤ length x.wrote.new)
+
 abbrev pub Rooted : List ℕ → List ℕ → ℕ → Type 0
 Rooted old new h = Stands old new h × All ShiftsOf (operand_of old new h)
 
@@ -59,8 +63,8 @@ abbrev pub row_in : Source → List Operand → List Operand
 row_in s r = cond (row_names s.table r) r []
 
 -- n rows of k operand numbers each
-unfoldable pub rows_in_lem : Source → ℕ → ℕ → List ℕ → List Operand
-rows_in_lem s k n hs = joined (keep (row_names s.table) (rows_of (operand_of s.old s.new) k n hs))
+unfoldable pub rows_in : Source → ℕ → ℕ → List ℕ → List Operand
+rows_in s k n hs = joined (keep (row_names s.table) (rows_of (operand_of s.old s.new) k n hs))
 
 -- n is a node; a decision of 0 is Commit
 abbrev pub committed_at : Source → ℕ → List Operand
@@ -74,15 +78,15 @@ commits_in s w (suc n) = committed_at s (get_or s.table w 0) ++ commits_in s (su
 -- the operands of the constraints
 unfoldable pub roots_in : Source → Sizes → List ℕ → List ℕ → List ℕ → List ℕ → List Operand
 roots_in s z ands imuls bmuls zeros =
-    rows_in_lem s 3 z.ands ands ++ (rows_in_lem s 4 z.imuls imuls ++ (rows_in_lem s 6 z.bmuls bmuls ++ rows_in_lem s 1 z.zeros zeros))
+    rows_in s 3 z.ands ands ++ (rows_in s 4 z.imuls imuls ++ (rows_in s 6 z.bmuls bmuls ++ rows_in s 1 z.zeros zeros))
 
 unfoldable pub operands_in : Source → Sizes → List ℕ → List ℕ → List ℕ → List ℕ → List Operand
 operands_in s z ands imuls bmuls zeros =
-    rows_in_lem s 3 z.ands ands
-    ++ (rows_in_lem s 4 z.imuls imuls ++ (rows_in_lem s 6 z.bmuls bmuls ++ (rows_in_lem s 1 z.zeros zeros ++ commits_in s 0 z.wires)))
+    rows_in s 3 z.ands ands
+    ++ (rows_in s 4 z.imuls imuls ++ (rows_in s 6 z.bmuls bmuls ++ (rows_in s 1 z.zeros zeros ++ commits_in s 0 z.wires)))
 
 abbrev pub Ready : Source → ℕ → Type 0
-Ready s n = Readable s × ((w : ℕ) → Within (in_place_lem s) n w)
+Ready s n = Readable s × ((w : ℕ) → Within (in_place s) n w)
 
 abbrev pub RowsThere : List ℕ → List ℕ → ℕ → ℕ → List ℕ → Type 0
 RowsThere old new k n hs = (k * n ≤ length hs) × All (Rooted old new) (take (k * n) hs)

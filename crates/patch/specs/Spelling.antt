@@ -1,6 +1,7 @@
 -- Expansion as the program does it: terms are written one after the other to a store, and what is known to write nothing is passed over.
 --
---   in_place_lem            what is put in the place of a wire, by the table of definitions and the decisions: none where the wire stands
+--   source_of          what the program reads, as it is lent; source_in, with the stores and the right sides of a system that is lent
+--   in_place           what is put in the place of a wire, by the table of definitions and the decisions: none where the wire stands
 --   dead alive t       no bit that can be set in the wire of t gets through the shifts of t: nothing would be written
 --   spelt              the store of new terms and how far it is filled, as a state of Steps.antt; spelt_to, the same where that is one
 --                      number: past the end of the store it says that a term found no room
@@ -20,7 +21,7 @@
 --   Entered s t e k n  the same of a term of the number t, that has the entry e, and of which the mask k takes in something; Enterable
 --
 -- Assumes nothing.
-use Rattle.std.specs.Prelude.{◌≡◌, ℕ, zero, suc, ◌+◌, ◌*◌, ◌/◌, ◌%◌, ◌^◌, ◌≤◌, ◌<◌, Bool, true, false, cond, List, [], ◌∷◌, eqb, ltb, length, get_or}
+use Rattle.std.specs.Prelude.{◌≡◌, ℕ, zero, suc, ◌+◌, ◌*◌, ◌/◌, ◌%◌, ◌^◌, ◌≤◌, ◌<◌, Bool, true, false, cond, List, [], ◌∷◌, eqb, ltb, length, get_or, Some, None, Option as Answer}
 use Rattle.std.proofs.Math.Option.{Option, none, some}
 use Rattle.std.specs.Int.Bits.{bit_and}
 use Rattle.shift.specs.declared.Shift.{Shift}
@@ -33,11 +34,11 @@ use Rattle.alive.specs.Masks.{ones}
 use Rattle.lower.specs.Lists.{All, some_of}
 use Rattle.lower.specs.Tables.{marked}
 use Rattle.lower.specs.Accepted.{ShiftsOf}
+use Rattle.lower.specs.declared.LentSystem.{LentSystem}
 use Rattle.lower.specs.Stores.{Stands}
 use Rattle.legraph.specs.Walked.{rhs_in}
 use Rattle.patch.specs.declared.Cursor.{Cursor}
-use Rattle.patch.specs.declared.Folded.{Folded}
-use Rattle.patch.specs.declared.Folded.TheVariants.{Under, Nothing}
+use Rattle.patch.specs.declared.LentSource.{LentSource}
 use Rattle.patch.specs.Expansion.{Within}
 use Rattle.patch.specs.Steps.{Written, wrote, put, write_down}
 
@@ -53,13 +54,19 @@ pub record Source : Type 0 where
 abbrev pub source : List ℕ → List ℕ → List ℕ → List ℕ → List ℕ → List ℕ → Source
 source old new rhss table decisions alive = record { old = old; new = new; rhss = rhss; table = table; decisions = decisions; alive = alive }
 
+abbrev pub source_of : LentSource → Source
+source_of s = source s.stores.old.now s.stores.new.now s.rhss.now s.table.now s.decisions.now s.alive.now
+
+abbrev pub source_in : LentSystem → List ℕ → List ℕ → List ℕ → Source
+source_in s table decisions alive = source s.stores.old.now s.stores.new.now s.rhss.now table decisions alive
+
 -- n is a node: 0 where the wire is not defined, or its definition, counted from 1; a decision of 0 is Commit
 abbrev pub place_of : Source → ℕ → Option Operand
 place_of s zero = none
 place_of s (suc d) = cond (eqb (get_or s.decisions d 0) 0) none (some (rhs_in s.old s.new s.rhss d))
 
-unfoldable pub in_place_lem : Source → ℕ → Option Operand
-in_place_lem s w = place_of s (get_or s.table w 0)
+unfoldable pub in_place : Source → ℕ → Option Operand
+in_place s w = place_of s (get_or s.table w 0)
 
 -- the node of what is put in the place of a node
 abbrev pub inlined_number : List ℕ → ℕ → ℕ
@@ -95,10 +102,10 @@ bare t = record { wire = 0; inner = t.inner; outer = t.outer }
 abbrev pub Over : ℕ → Type 0
 Over x = ((term_of x).wire ≡ 0) × ShiftsOf (term_of x)
 
-abbrev pub folded_as : PushInner → Folded
-folded_as (Seq a b) = Under (65536 * number_of a + 4294967296 * number_of b)
-folded_as Zero = Nothing
-folded_as OverBudget = Nothing
+abbrev pub folded_as : PushInner → Answer ℕ
+folded_as (Seq a b) = Some (65536 * number_of a + 4294967296 * number_of b)
+folded_as Zero = None
+folded_as OverBudget = None
 
 -- the terms of a definition that are left, below the shifts i and o
 unfoldable pub spell_under : (Term → Written → Written) → Shift → Shift → Operand → Written → Written
@@ -111,7 +118,7 @@ spell_by s go t (some rhs) m = cond (dead s t) m (spell_under go (shift_at t.inn
 
 unfoldable pub spell : Source → ℕ → Term → Written → Written
 spell s zero t m = cond m.full m (put t m)
-spell s (suc n) t m = cond m.full m (spell_by s (spell s n) t (in_place_lem s t.wire) m)
+spell s (suc n) t m = cond m.full m (spell_by s (spell s n) t (in_place s t.wire) m)
 
 abbrev pub Sees : ℕ → Shift → Shift → Type 0
 Sees k i o = (k < 2 ^ 64) × ((w : ℕ) → w < 2 ^ 64 → (bit_and w k ≡ 0 → apply_of o (apply_of i w) ≡ 0) × (apply_of o (apply_of i w) ≡ 0 → bit_and w k ≡ 0))
@@ -184,7 +191,7 @@ pub record Opened (s : Source) (d below : ℕ) : Type 0 where
   pub nodes : (w : ℕ) → get_or s.table w 0 < 65536
   pub readable : Readable s
   pub opens : Opens s d
-  pub deep : All (λ (u : Term). Within (in_place_lem s) below u.wire) (rhs_in s.old s.new s.rhss d)
+  pub deep : All (λ (u : Term). Within (in_place s) below u.wire) (rhs_in s.old s.new s.rhss d)
 
 pub record Openable (store : List ℕ) (d below : ℕ) : Type 0 where
   pub rest : Source
@@ -195,7 +202,7 @@ pub record Entered (s : Source) (t e k below : ℕ) : Type 0 where
   pub readable : Readable s
   pub entry : e ≡ laid s.table s.decisions (term_of t)
   pub shift : valid_number (term_of t).inner ≡ true
-  pub deep : Within (in_place_lem s) below (term_of t).wire
+  pub deep : Within (in_place s) below (term_of t).wire
   pub live : bit_and (look s.table s.decisions s.alive (term_of t)) k ≡ 0 → ⊥
 
 pub record Enterable (store : List ℕ) (e k below : ℕ) : Type 0 where

@@ -1,14 +1,14 @@
 // All operands that are rebuilt, one after the other: the constraints that name a defined wire, then the committed definitions.
-ghost use Rattle.std.specs.Prelude.{◌≡◌, false, [], map, ◌≤◌, ◌<◌, length, get_or};
+ghost use Rattle.std.specs.Prelude.{◌≡◌, false, [], map, ◌≤◌, ◌<◌, ◌/◌, length, get_or};
 ghost use Rattle.operand.specs.Numbers.{operand_of};
 ghost use Rattle.lower.specs.Lists.{All};
 ghost use Rattle.patch.specs.Steps.{wrote};
-ghost use Rattle.patch.specs.Spelling.{source, spell};
-ghost use Rattle.patch.specs.Building.{built, built_by, handle, build_one, build_all, Rooted, row_in, rows_in_lem, committed_at, commits_in, roots_in, operands_in, Ready, RowsThere, CommitsThere, Room, Buildable};
+ghost use Rattle.patch.specs.Spelling.{source_of, source_in, spell};
+ghost use Rattle.patch.specs.Building.{built, built_by, handle, build_one, Builds, Rooted, row_in, rows_in, committed_at, commits_in, roots_in, operands_in, Ready, CommitsThere, Room, Buildable};
 
-use crate::{Cursor, Progress};
+use crate::{Cursor, LentSource, Progress};
 use legraph::Node;
-use lower::Sizes;
+use lower::LentSystem;
 use operand::{Wire, WireOperand};
 
 // The operand that stands in the new store from `start` up to `end`.
@@ -24,32 +24,25 @@ fn handle(start: usize, end: usize) -> u64
 }
 
 // One operand more, and its number. Where the list is full nothing is done.
-fn build_one<'a>(
-    old: &'a [u64],
-    new: &'a [u64],
-    rhss: &[u64],
-    table: &[u16],
-    decisions: &[u64],
-    alive: &[u64],
+fn build_one(
+    source: &LentSource<'_>,
     out: &mut [u64],
     list: &mut [u64],
-    b: Progress,
+    progress: Progress,
     h: u64,
     below: usize,
 ) -> Progress
-    requires ready { Ready (source old.now new.now rhss.now table.now decisions.now alive.now) below }
-    requires rooted { Rooted old.now new.now h × Room out.old b }
-    ensures { (built_by out.new list.new result ≡ build_one (spell (source old.now new.now rhss.now table.now decisions.now alive.now) below) (operand_of old.now new.now h) (built_by out.old list.old b)) × (result.cursor.count ≤ length out.old) }
+    requires ready { Ready (source_of source.now) below }
+    requires rooted { Rooted source.now.stores.old.now source.now.stores.new.now h × Room out.old progress }
+    ensures { (built_by out.new list.new result ≡ build_one (spell (source_of source.now) below) (operand_of source.now.stores.old.now source.now.stores.new.now h) (built_by out.old list.old progress)) × (result.cursor.count ≤ length out.old) }
 {
-    let n = b.at;
+    let n = progress.at;
     if list.len() <= n {
-        return b;
+        return progress;
     }
-    let from = b.cursor;
+    let from = progress.cursor;
     let start = from.count;
-    let c = crate::rebuild::process_operand(
-        old, new, rhss, table, decisions, alive, &mut *out, from, h, below,
-    );
+    let c = crate::rebuild::process_operand(source, &mut *out, from, h, below);
     list[n] = handle(start, c.count);
     Progress {
         cursor: c,
@@ -57,259 +50,170 @@ fn build_one<'a>(
     }
 }
 
-fn build_row<'a>(
-    old: &'a [u64],
-    new: &'a [u64],
+fn build_row(
+    source: &LentSource<'_>,
     row: &[u64],
-    rhss: &[u64],
-    table: &[u16],
-    decisions: &[u64],
-    alive: &[u64],
     out: &mut [u64],
     list: &mut [u64],
-    b: Progress,
+    progress: Progress,
     below: usize,
 ) -> Progress
-    requires ready { Ready (source old.now new.now rhss.now table.now decisions.now alive.now) below }
-    requires all { All (Rooted old.now new.now) row.now × Room out.old b }
-    ensures { (built_by out.new list.new result ≡ build_all (spell (source old.now new.now rhss.now table.now decisions.now alive.now) below) (map (operand_of old.now new.now) row.now) (built_by out.old list.old b)) × (result.cursor.count ≤ length out.old) }
+    requires ready { Ready (source_of source.now) below }
+    requires rooted { All (Rooted source.now.stores.old.now source.now.stores.new.now) row.now × Room out.old progress }
+    ensures { Builds (source_of source.now) below (map (operand_of source.now.stores.old.now source.now.stores.new.now) row.now) (built_by out.old list.old progress) (built_by out.new list.new result) }
 {
-    let mut cur = b;
-    let mut k = 0;
-    while k < row.len() {
-        cur = build_one(
-            old, new, rhss, table, decisions, alive, &mut *out, &mut *list, cur, row[k], below,
-        );
-        k += 1;
+    let mut cur = progress;
+    for h in row {
+        cur = build_one(source, &mut *out, &mut *list, cur, *h, below);
     }
     cur
 }
 
 // Only a constraint that names a defined wire is rebuilt.
-fn build_root_patch<'a>(
-    old: &'a [u64],
-    new: &'a [u64],
+fn build_root_patch(
+    source: &LentSource<'_>,
     row: &[u64],
-    rhss: &[u64],
-    table: &[u16],
-    decisions: &[u64],
-    alive: &[u64],
     out: &mut [u64],
     list: &mut [u64],
-    b: Progress,
+    progress: Progress,
     below: usize,
 ) -> Progress
-    requires ready { Ready (source old.now new.now rhss.now table.now decisions.now alive.now) below }
-    requires all { All (Rooted old.now new.now) row.now × Room out.old b }
-    ensures { (built_by out.new list.new result ≡ build_all (spell (source old.now new.now rhss.now table.now decisions.now alive.now) below) (row_in (source old.now new.now rhss.now table.now decisions.now alive.now) (map (operand_of old.now new.now) row.now)) (built_by out.old list.old b)) × (result.cursor.count ≤ length out.old) }
+    requires ready { Ready (source_of source.now) below }
+    requires rooted { All (Rooted source.now.stores.old.now source.now.stores.new.now) row.now × Room out.old progress }
+    ensures { Builds (source_of source.now) below (row_in (source_of source.now) (map (operand_of source.now.stores.old.now source.now.stores.new.now) row.now)) (built_by out.old list.old progress) (built_by out.new list.new result) }
 {
-    if !crate::rebuild::row_names(old, new, row, table) {
-        return b;
+    if !crate::rebuild::row_names(&source.stores, row, source.table) {
+        return progress;
     }
-    build_row(
-        old, new, row, rhss, table, decisions, alive, &mut *out, &mut *list, b, below,
-    )
+    build_row(source, row, &mut *out, &mut *list, progress, below)
 }
 
-// `n` rows of `k` operands each.
-fn build_rows<'a>(
-    old: &'a [u64],
-    new: &'a [u64],
-    hs: &[u64],
-    k: usize,
-    n: usize,
-    rhss: &[u64],
-    table: &[u16],
-    decisions: &[u64],
-    alive: &[u64],
+// Rows of `width` operands each.
+fn build_rows(
+    source: &LentSource<'_>,
+    rows: &[u64],
+    width: usize,
     out: &mut [u64],
     list: &mut [u64],
-    b: Progress,
+    progress: Progress,
     below: usize,
 ) -> Progress
-    requires ready { Ready (source old.now new.now rhss.now table.now decisions.now alive.now) below }
-    requires rows_there { RowsThere old.now new.now k n hs.now × Room out.old b }
-    ensures { (built_by out.new list.new result ≡ build_all (spell (source old.now new.now rhss.now table.now decisions.now alive.now) below) (rows_in_lem (source old.now new.now rhss.now table.now decisions.now alive.now) k n hs.now) (built_by out.old list.old b)) × (result.cursor.count ≤ length out.old) }
+    requires ready { Ready (source_of source.now) below }
+    requires wide { 0 < width }
+    requires rooted { All (Rooted source.now.stores.old.now source.now.stores.new.now) rows.now × Room out.old progress }
+    ensures { Builds (source_of source.now) below (rows_in (source_of source.now) width (length rows.now / width) rows.now) (built_by out.old list.old progress) (built_by out.new list.new result) }
 {
-    let mut cur = b;
-    let mut i = 0;
-    let mut left = n;
-    while 0 < left {
-        let end = i + k;
-        cur = build_root_patch(
-            old,
-            new,
-            &hs[i..end],
-            rhss,
-            table,
-            decisions,
-            alive,
-            &mut *out,
-            &mut *list,
-            cur,
-            below,
-        );
-        i = end;
-        left -= 1;
+    let mut cur = progress;
+    for row in rows.chunks_exact(width) {
+        cur = build_root_patch(source, row, &mut *out, &mut *list, cur, below);
     }
     cur
 }
 
 // The right side as a row of one: `build_one` has one caller, so no operand costs a call.
-fn build_committed<'a>(
-    old: &'a [u64],
-    new: &'a [u64],
-    rhss: &[u64],
-    table: &[u16],
-    decisions: &[u64],
-    alive: &[u64],
+fn build_committed(
+    source: &LentSource<'_>,
     out: &mut [u64],
     list: &mut [u64],
-    b: Progress,
+    progress: Progress,
     wire: Wire,
     below: usize,
 ) -> Progress
-    requires ready { Ready (source old.now new.now rhss.now table.now decisions.now alive.now) below }
-    requires commits_there { CommitsThere (source old.now new.now rhss.now table.now decisions.now alive.now) × Room out.old b }
-    ensures { (built_by out.new list.new result ≡ build_all (spell (source old.now new.now rhss.now table.now decisions.now alive.now) below) (committed_at (source old.now new.now rhss.now table.now decisions.now alive.now) (get_or table.now wire.0 0)) (built_by out.old list.old b)) × (result.cursor.count ≤ length out.old) }
+    requires ready { Ready (source_of source.now) below }
+    requires commits_there { CommitsThere (source_of source.now) × Room out.old progress }
+    ensures { Builds (source_of source.now) below (committed_at (source_of source.now) (get_or source.now.table.now wire.0 0)) (built_by out.old list.old progress) (built_by out.new list.new result) }
 {
-    let node = legraph::node_of(table, wire);
+    let node = legraph::node_of(source.table, wire);
     let Node::LinDef(d) = node else {
-        return b;
+        return progress;
     };
-    if !crate::expand::is_committed(decisions, d) {
-        return b;
+    if !crate::expand::is_committed(source.decisions, d) {
+        return progress;
     }
     let i = d.0 as usize;
     let end = i + 1;
     build_row(
-        old,
-        new,
-        &rhss[i..end],
-        rhss,
-        table,
-        decisions,
-        alive,
+        source,
+        &source.rhss[i..end],
         &mut *out,
         &mut *list,
-        b,
+        progress,
         below,
     )
 }
 
 // By rising wire number.
-fn build_commits<'a>(
-    old: &'a [u64],
-    new: &'a [u64],
-    rhss: &[u64],
-    table: &[u16],
-    decisions: &[u64],
-    alive: &[u64],
+fn build_commits(
+    source: &LentSource<'_>,
     out: &mut [u64],
     list: &mut [u64],
-    b: Progress,
+    progress: Progress,
     wires: usize,
     below: usize,
 ) -> Progress
-    requires ready { Ready (source old.now new.now rhss.now table.now decisions.now alive.now) below }
-    requires commits_there { CommitsThere (source old.now new.now rhss.now table.now decisions.now alive.now) × Room out.old b × (wires ≤ 65536) }
-    ensures { (built_by out.new list.new result ≡ build_all (spell (source old.now new.now rhss.now table.now decisions.now alive.now) below) (commits_in (source old.now new.now rhss.now table.now decisions.now alive.now) 0 wires) (built_by out.old list.old b)) × (result.cursor.count ≤ length out.old) }
+    requires ready { Ready (source_of source.now) below }
+    requires commits_there { CommitsThere (source_of source.now) × Room out.old progress × (wires ≤ 65536) }
+    ensures { Builds (source_of source.now) below (commits_in (source_of source.now) 0 wires) (built_by out.old list.old progress) (built_by out.new list.new result) }
 {
-    let mut cur = b;
-    let mut w = 0;
-    while w < wires {
-        cur = build_committed(
-            old,
-            new,
-            rhss,
-            table,
-            decisions,
-            alive,
-            &mut *out,
-            &mut *list,
-            cur,
-            Wire(w as u16),
-            below,
-        );
-        w += 1;
+    let mut cur = progress;
+    for w in 0..wires {
+        cur = build_committed(source, &mut *out, &mut *list, cur, Wire(w as u16), below);
     }
     cur
 }
 
 // And, Imul, Bmul and Zero, in that order.
-fn build_root_patches<'a>(
-    old: &'a [u64],
-    new: &'a [u64],
-    ands: &[u64],
-    imuls: &[u64],
-    bmuls: &[u64],
-    zeros: &[u64],
-    rhss: &[u64],
-    z: Sizes,
-    table: &[u16],
-    decisions: &[u64],
-    alive: &[u64],
+fn build_root_patches(
+    source: &LentSource<'_>,
+    system: &LentSystem<'_>,
     out: &mut [u64],
     list: &mut [u64],
-    b: Progress,
+    progress: Progress,
 ) -> Progress
-    requires buildable { Buildable (source old.now new.now rhss.now table.now decisions.now alive.now) z ands.now imuls.now bmuls.now zeros.now }
-    requires room { Room out.old b }
-    ensures { (built_by out.new list.new result ≡ build_all (spell (source old.now new.now rhss.now table.now decisions.now alive.now) z.linears) (roots_in (source old.now new.now rhss.now table.now decisions.now alive.now) z ands.now imuls.now bmuls.now zeros.now) (built_by out.old list.old b)) × (result.cursor.count ≤ length out.old) }
+    requires buildable { Buildable (source_of source.now) system.now.sizes system.now.ands.now system.now.imuls.now system.now.bmuls.now system.now.zeros.now }
+    requires room { Room out.old progress }
+    ensures { Builds (source_of source.now) system.now.sizes.linears (roots_in (source_of source.now) system.now.sizes system.now.ands.now system.now.imuls.now system.now.bmuls.now system.now.zeros.now) (built_by out.old list.old progress) (built_by out.new list.new result) }
 {
-    let a = z.ands;
-    let i = z.imuls;
-    let m = z.bmuls;
-    let o = z.zeros;
+    let z = system.sizes;
     let below = z.linears;
-    let first = build_rows(
-        old, new, ands, 3, a, rhss, table, decisions, alive, &mut *out, &mut *list, b, below,
-    );
-    let second = build_rows(
-        old, new, imuls, 4, i, rhss, table, decisions, alive, &mut *out, &mut *list, first, below,
-    );
-    let third = build_rows(
-        old, new, bmuls, 6, m, rhss, table, decisions, alive, &mut *out, &mut *list, second, below,
-    );
-    build_rows(
-        old, new, zeros, 1, o, rhss, table, decisions, alive, &mut *out, &mut *list, third, below,
-    )
+    let ands = &system.ands[..3 * z.ands];
+    let imuls = &system.imuls[..4 * z.imuls];
+    let bmuls = &system.bmuls[..6 * z.bmuls];
+    let zeros = &system.zeros[..z.zeros];
+    let first = build_rows(source, ands, 3, &mut *out, &mut *list, progress, below);
+    let second = build_rows(source, imuls, 4, &mut *out, &mut *list, first, below);
+    let third = build_rows(source, bmuls, 6, &mut *out, &mut *list, second, below);
+    build_rows(source, zeros, 1, &mut *out, &mut *list, third, below)
 }
 
 // Everything that is rebuilt, to an empty store and an empty list.
-pub fn build<'a>(
-    old: &'a [u64],
-    new: &'a [u64],
-    ands: &[u64],
-    imuls: &[u64],
-    bmuls: &[u64],
-    zeros: &[u64],
-    rhss: &[u64],
-    z: Sizes,
+pub fn build(
+    system: &LentSystem<'_>,
     table: &[u16],
     decisions: &[u64],
     alive: &[u64],
     out: &mut [u64],
     list: &mut [u64],
 ) -> Progress
-    requires buildable { Buildable (source old.now new.now rhss.now table.now decisions.now alive.now) z ands.now imuls.now bmuls.now zeros.now }
-    requires out_len_bound { length out.old < 2147483648 }
-    ensures { (built_by out.new list.new result ≡ build_all (spell (source old.now new.now rhss.now table.now decisions.now alive.now) z.linears) (operands_in (source old.now new.now rhss.now table.now decisions.now alive.now) z ands.now imuls.now bmuls.now zeros.now) (built (wrote out.old 0 [] false) list.old 0)) × (result.cursor.count ≤ length out.old) }
+    requires buildable { Buildable (source_in system.now table.now decisions.now alive.now) system.now.sizes system.now.ands.now system.now.imuls.now system.now.bmuls.now system.now.zeros.now }
+    requires room { length out.old < 2147483648 }
+    ensures { Builds (source_in system.now table.now decisions.now alive.now) system.now.sizes.linears (operands_in (source_in system.now table.now decisions.now alive.now) system.now.sizes system.now.ands.now system.now.imuls.now system.now.bmuls.now system.now.zeros.now) (built (wrote out.old 0 [] false) list.old 0) (built_by out.new list.new result) }
 {
-    let wires = z.wires;
-    let below = z.linears;
-    let b = Progress {
+    let source = LentSource {
+        stores: system.stores,
+        rhss: system.rhss,
+        table,
+        decisions,
+        alive,
+    };
+    let z = system.sizes;
+    let none = Progress {
         cursor: Cursor {
             count: 0,
             full: false,
         },
         at: 0,
     };
-    let roots = build_root_patches(
-        old, new, ands, imuls, bmuls, zeros, rhss, z, table, decisions, alive, &mut *out,
-        &mut *list, b,
-    );
-    build_commits(
-        old, new, rhss, table, decisions, alive, &mut *out, &mut *list, roots, wires, below,
-    )
+    let roots = build_root_patches(&source, system, &mut *out, &mut *list, none);
+    build_commits(&source, &mut *out, &mut *list, roots, z.wires, z.linears)
 }

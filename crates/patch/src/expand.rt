@@ -3,7 +3,7 @@
 // is carried down that takes in just what gets through the shifts: a term is passed over by one test. The two shifts are carried down as
 // one number, spelt as in a term with no wire: a term is written by adding its wire. Whatever is read of a definition stands in one store:
 // the masks of its terms one after the other, since most are only passed over, and its terms behind them, with what is put in their place.
-ghost use Rattle.std.specs.Prelude.{◌≡◌, true, false, ℕ, ◌+◌, ◌-◌, ◌*◌, ◌≤◌, ◌<◌, eqb, length, get_or, set, take, drop};
+ghost use Rattle.std.specs.Prelude.{◌≡◌, true, false, ℕ, ◌+◌, ◌-◌, ◌*◌, ◌^◌, ◌≤◌, ◌<◌, eqb, length, get_or, set, take, drop};
 ghost use Rattle.std.specs.Int.Bits.{bit_and};
 ghost use Rattle.shift.specs.Shifts.{Valid, valid_number, shift_at};
 ghost use Rattle.operand.specs.Numbers.{Term, term_of, term_number, operand_at, terms_at, operand_of};
@@ -17,11 +17,11 @@ ghost use Rattle.legraph.specs.Tables.{told_node};
 ghost use Rattle.legraph.specs.Walked.{rhs_in};
 ghost use Rattle.patch.specs.Expansion.{Within};
 ghost use Rattle.patch.specs.Steps.{put, write_down};
-ghost use Rattle.patch.specs.Spelling.{Source, source, in_place_lem, inlined_number, spelt, cursor_at, spelt_to, inner_of, outer_of, bare, Over, folded_as, spell_under, spell, Sees, NextLive, look, laid, Entries, Lookable, Looks, Readable, reading, Opened, Openable, Entered, Enterable};
+ghost use Rattle.patch.specs.Spelling.{Source, source, source_of, in_place, inlined_number, spelt, cursor_at, spelt_to, inner_of, outer_of, bare, Over, folded_as, spell_under, spell, Sees, NextLive, look, laid, Entries, Lookable, Looks, Readable, reading, Opened, Openable, Entered, Enterable};
 
-use crate::{Cursor, Folded};
+use crate::{Cursor, LentSource};
 use legraph::Node;
-use operand::{LinDefId, PushInner, Wire};
+use operand::{LinDefId, PushInner, TermStores, Wire};
 use shift::Shift;
 
 // The store of new terms with one more, or full.
@@ -82,9 +82,11 @@ fn mask_of(alive: &[u64], d: LinDefId) -> u64
     alive[i]
 }
 
-// Whether the mask takes in nothing that the definition can have.
+// Whether the mask takes in nothing that the definition can have. That this is a word is said too: a proof does not know it of a store
+// that stands in a struct.
 fn is_dead(alive: &[u64], d: LinDefId, mask: u64) -> bool
-    ensures { result ≡ eqb (bit_and (get_or alive.now d.0 0) mask) 0 }
+    ensures dead { result ≡ eqb (bit_and (get_or alive.now d.0 0) mask) 0 }
+    ensures word { get_or alive.now d.0 0 < 2 ^ 64 }
 {
     mask_of(alive, d) & mask == 0
 }
@@ -100,9 +102,10 @@ pub fn is_committed(decisions: &[u64], d: LinDefId) -> bool
     decisions[i] == 0
 }
 
-// The definition that is put in the place of a wire, if there is one.
+// The definition that is put in the place of a wire, if there is one. That the numbers of the table are small is said for the same reason.
 fn inlined(table: &[u16], decisions: &[u64], wire: Wire) -> Node
-    ensures { told_node result ≡ inlined_number decisions.now (get_or table.now wire.0 0) }
+    ensures node { told_node result ≡ inlined_number decisions.now (get_or table.now wire.0 0) }
+    ensures nodes { (w : ℕ) → get_or table.now w 0 < 65536 }
 {
     let node = legraph::node_of(table, wire);
     let Node::LinDef(d) = node else {
@@ -131,14 +134,12 @@ fn next_live(ms: &[u64], from: usize, mask: u64) -> usize
     requires { from ≤ length ms.now }
     ensures { NextLive ms.now from mask result }
 {
-    let mut i = from;
-    while i < ms.len() {
+    for i in from..ms.len() {
         if ms[i] & mask != 0 {
             return i;
         }
-        i += 1;
     }
-    i
+    ms.len()
 }
 
 // The two shifts of a term, spelt as there; the wire's place is empty.
@@ -169,22 +170,21 @@ fn through(t: u64) -> u64
 }
 
 // What push_inner answers, by one number.
-fn fold_shifts(inner: Shift, outer: Shift, s: Shift) -> Folded
+fn fold_shifts(inner: Shift, outer: Shift, s: Shift) -> Option<u64>
     requires { Valid inner × Valid outer × Valid s }
     ensures { result ≡ folded_as (push_valid inner outer s 2) }
 {
     match operand::valid::push_inner(inner, outer, s, 2) {
         PushInner::Seq(i, o) => {
-            Folded::Under(65536 * shift::valid::index(i) + 4294967296 * shift::valid::index(o))
+            Some(65536 * shift::valid::index(i) + 4294967296 * shift::valid::index(o))
         }
-        PushInner::Zero => Folded::Nothing,
-        PushInner::OverBudget => Folded::Nothing,
+        PushInner::Zero | PushInner::OverBudget => None,
     }
 }
 
 // The shift whose number stands in the wire's place folded in below the two others. They come as one number, so that none is taken out of
 // it before it is needed.
-fn fold_three(x: u64) -> Folded
+fn fold_three(x: u64) -> Option<u64>
     requires { (valid_number (term_of x).wire ≡ true) × ShiftsOf (term_of x) }
     ensures { result ≡ folded_as (push_valid (inner_of x) (outer_of x) (shift_at (term_of x).wire) 2) }
 {
@@ -197,7 +197,7 @@ fn fold_three(x: u64) -> Folded
 
 // The shifts `over` with the shift `s` folded in as the innermost one. Where two of the three are identities, as nearly always, that is
 // the third.
-fn fold(over: u64, s: u64) -> Folded
+fn fold(over: u64, s: u64) -> Option<u64>
     requires { Over over × (valid_number s ≡ true) }
     ensures { result ≡ folded_as (push_valid (inner_of over) (outer_of over) (shift_at s) 2) }
 {
@@ -206,39 +206,35 @@ fn fold(over: u64, s: u64) -> Folded
     if o % 64 == 0 {
         if i % 64 == 0 {
             if s % 64 == 0 {
-                return Folded::Under(0);
+                return Some(0);
             }
-            return Folded::Under(65536 * s);
+            return Some(65536 * s);
         }
         if s % 64 == 0 {
-            return Folded::Under(65536 * i);
+            return Some(65536 * i);
         }
     }
     fold_three(over + s)
 }
 
 // A term at the top. One that stands is written as it is.
-pub fn expand_term<'a>(
-    old: &'a [u64],
-    new: &'a [u64],
-    rhss: &[u64],
-    table: &[u16],
-    decisions: &[u64],
-    alive: &[u64],
+pub fn expand_term(
+    source: &LentSource<'_>,
     out: &mut [u64],
     c: Cursor,
     t: u64,
     below: usize,
 ) -> Cursor
-    requires readable { Readable (source old.now new.now rhss.now table.now decisions.now alive.now) }
-    requires within { Within (in_place_lem (source old.now new.now rhss.now table.now decisions.now alive.now)) below (term_of t).wire }
+    requires readable { Readable (source_of source.now) }
+    requires within { Within (in_place (source_of source.now)) below (term_of t).wire }
     requires shifts_of { ShiftsOf (term_of t) × (c.count ≤ length out.old) }
-    ensures { (spelt out.new result ≡ spell (source old.now new.now rhss.now table.now decisions.now alive.now) below (term_of t) (spelt out.old c)) × (result.count ≤ length out.old) }
+    ensures { (spelt out.new result ≡ spell (source_of source.now) below (term_of t) (spelt out.old c)) × (result.count ≤ length out.old) }
 {
     if c.full {
         return c;
     }
-    let node = inlined(table, decisions, operand::term::wire(t));
+    let alive = source.alive;
+    let node = inlined(source.table, source.decisions, operand::term::wire(t));
     let Node::LinDef(d) = node else {
         return put(&mut *out, c, t);
     };
@@ -275,6 +271,7 @@ fn expand_operand(
     let ms = part(alive, at, m);
     let es = part(alive, at + m, m);
     let mut cur = n;
+    // Kept: a `for` is no plainer, since the next place is found, not counted.
     let mut k = next_live(ms, 0, mask);
     while k < es.len() {
         cur = expand_below(alive, &mut *out, cur, es[k], over, mask, below);
@@ -301,8 +298,7 @@ fn expand_below(
     ensures { ((s : Source) (t : ℕ) → Entered (reading s alive.now) t e mask below → spelt_to out.new result ≡ write_down (spell (reading s alive.now) below) (term_of t).wire (push_valid (inner_of over) (outer_of over) (inner_of t) 2) (spelt_to out.old n)) × (result ≤ length out.old + 1) }
 {
     let s = operand::term::inner(e);
-    let f = fold(over, s);
-    let Folded::Under(x) = f else {
+    let Some(x) = fold(over, s) else {
         return n;
     };
     let wire = operand::term::wire(e);
@@ -357,61 +353,55 @@ fn lay(table: &[u16], decisions: &[u64], alive: &mut [u64], t: u64, at: usize, t
 }
 
 fn look_terms(ts: &[u64], table: &[u16], decisions: &[u64], alive: &mut [u64], at: usize)
-    requires le_at { (1024 ≤ at) × (at + 2 * length ts.now ≤ length alive.old) }
-    requires all { All (λ (t : ℕ). valid_number (term_of t).inner ≡ true) ts.now }
-    requires by_index { (w : ℕ) → get_or table.now w 0 ≤ 1024 }
+    requires room { (1024 ≤ at) × (at + 2 * length ts.now ≤ length alive.old) }
+    requires shifts_there { All (λ (t : ℕ). valid_number (term_of t).inner ≡ true) ts.now }
+    requires nodes { (w : ℕ) → get_or table.now w 0 ≤ 1024 }
     ensures { Entries table.now decisions.now alive.old alive.new ts.now at (length ts.now) (length ts.now) }
 {
     let to = at + ts.len();
-    let mut i = 0;
-    while i < ts.len() {
-        lay(table, decisions, &mut *alive, ts[i], at + i, to + i);
-        i += 1;
+    for (i, t) in ts.iter().enumerate() {
+        lay(table, decisions, &mut *alive, *t, at + i, to + i);
     }
 }
 
 // The masks of the terms of one right side, their entries behind them, and how many they are.
-fn look_operand<'a>(
-    old: &'a [u64],
-    new: &'a [u64],
+fn look_operand(
+    stores: &TermStores<'_>,
     h: u64,
     table: &[u16],
     decisions: &[u64],
     alive: &mut [u64],
     at: usize,
 ) -> usize
-    requires stands { Stands old.now new.now h }
-    requires all { All (λ (u : Term). valid_number u.inner ≡ true) (operand_of old.now new.now h) }
-    requires le_at { (1024 ≤ at) × (at + 2 * length_of h ≤ length alive.old) }
-    requires by_index { (w : ℕ) → get_or table.now w 0 ≤ 1024 }
-    ensures { (result ≡ length_of h) × Entries table.now decisions.now alive.old alive.new (terms_at old.now new.now (operand_at h)) at (length_of h) (length_of h) }
+    requires stands { Stands stores.now.old.now stores.now.new.now h }
+    requires shifts_there { All (λ (u : Term). valid_number u.inner ≡ true) (operand_of stores.now.old.now stores.now.new.now h) }
+    requires room { (1024 ≤ at) × (at + 2 * length_of h ≤ length alive.old) }
+    requires nodes { (w : ℕ) → get_or table.now w 0 ≤ 1024 }
+    ensures { (result ≡ length_of h) × Entries table.now decisions.now alive.old alive.new (terms_at stores.now.old.now stores.now.new.now (operand_at h)) at (length_of h) (length_of h) }
 {
-    let ts = lower::operand_terms(old, new, h);
+    let ts = stores.terms(h);
     look_terms(ts, table, decisions, &mut *alive, at);
     ts.len()
 }
 
 // The masks and the entries of the terms of the first `n` definitions, behind the masks of those, with the places where they begin between.
-pub fn write_looks<'a>(
-    old: &'a [u64],
-    new: &'a [u64],
+pub fn write_looks(
+    stores: &TermStores<'_>,
     rhss: &[u64],
     table: &[u16],
     decisions: &[u64],
     alive: &mut [u64],
     n: usize,
 )
-    requires lookable { Lookable old.now new.now rhss.now table.now n }
-    requires rhss_in_bounds { (2048 + 2 * sum_of length_of (take n rhss.now) ≤ length alive.old) × (length alive.old < 65536) }
-    ensures by_index { (j : ℕ) → j < 1024 → get_or alive.new j 0 ≡ get_or alive.old j 0 }
-    ensures by_index_2 { (d : ℕ) → d < n → Looks (source old.now new.now rhss.now table.now decisions.now alive.new) d }
+    requires lookable { Lookable stores.now.old.now stores.now.new.now rhss.now table.now n }
+    requires room { (2048 + 2 * sum_of length_of (take n rhss.now) ≤ length alive.old) × (length alive.old < 65536) }
+    ensures masks_kept { (j : ℕ) → j < 1024 → get_or alive.new j 0 ≡ get_or alive.old j 0 }
+    ensures looks { (d : ℕ) → d < n → Looks (source stores.now.old.now stores.now.new.now rhss.now table.now decisions.now alive.new) d }
 {
     let mut at = LOOKS + LOOKS;
-    let mut d = 0;
-    while d < n {
-        let m = look_operand(old, new, rhss[d], table, decisions, &mut *alive, at);
+    for d in 0..n {
+        let m = look_operand(stores, rhss[d], table, decisions, &mut *alive, at);
         alive[LOOKS + d] = (at + 65536 * m) as u64;
         at = at + 2 * m;
-        d += 1;
     }
 }

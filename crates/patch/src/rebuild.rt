@@ -1,90 +1,72 @@
 // Which constraints are rebuilt, and what their operands are expanded to.
-ghost use Rattle.std.specs.Prelude.{◌≡◌, true, map, ℕ, ◌≤◌, length};
-ghost use Rattle.shift.specs.Shifts.{valid_number};
-ghost use Rattle.operand.specs.Numbers.{Term, term_of, operand_of};
-ghost use Rattle.lower.specs.Lists.{All, some_of};
+ghost use Rattle.std.specs.Prelude.{◌≡◌, map, ℕ, ◌≤◌, length};
+ghost use Rattle.std.specs.List.{list_any};
+ghost use Rattle.operand.specs.Numbers.{term_of, operand_of};
+ghost use Rattle.lower.specs.Lists.{All};
 ghost use Rattle.lower.specs.Tables.{marked};
-ghost use Rattle.lower.specs.Accepted.{ShiftsOf};
 ghost use Rattle.lower.specs.Stores.{Stands};
 ghost use Rattle.patch.specs.Expansion.{Within};
 ghost use Rattle.patch.specs.Steps.{write_terms};
-ghost use Rattle.patch.specs.Spelling.{source, in_place_lem, spelt, spell, names_one, row_names, Readable};
+ghost use Rattle.patch.specs.Spelling.{source_of, in_place, spelt, spell, names_one, row_names, Readable};
 ghost use Rattle.patch.specs.Building.{Rooted};
 
-use crate::Cursor;
+use crate::{Cursor, LentSource};
 use legraph::Node;
+use operand::TermStores;
 
 fn is_defined(t: u64, table: &[u16]) -> bool
     ensures { result ≡ marked table.now (term_of t).wire }
 {
-    let node = legraph::node_of(table, operand::term::wire(t));
-    match node {
+    match legraph::node_of(table, operand::term::wire(t)) {
         Node::LinDef(_) => true,
         Node::Opaque => false,
     }
 }
 
-fn terms_name(ts: &[u64], table: &[u16]) -> bool
-    ensures { result ≡ names_one table.now (map term_of ts.now) }
+fn terms_name(terms: &[u64], table: &[u16]) -> bool
+    ensures { result ≡ list_any (λ (t : ℕ). marked table.now (term_of t).wire) terms.now }
 {
-    let mut i = 0;
-    while i < ts.len() {
-        if is_defined(ts[i], table) {
-            return true;
-        }
-        i += 1;
-    }
-    false
+    terms.iter().any(|t| is_defined(*t, table))
 }
 
-fn operand_names<'a>(old: &'a [u64], new: &'a [u64], h: u64, table: &[u16]) -> bool
-    requires { Stands old.now new.now h }
-    ensures { result ≡ names_one table.now (operand_of old.now new.now h) }
+fn operand_names(stores: &TermStores<'_>, h: u64, table: &[u16]) -> bool
+    requires { Stands stores.now.old.now stores.now.new.now h }
+    ensures { result ≡ names_one table.now (operand_of stores.now.old.now stores.now.new.now h) }
 {
-    terms_name(lower::operand_terms(old, new, h), table)
+    terms_name(stores.terms(h), table)
 }
 
 // Whether some operand of a row names a defined wire.
-pub fn row_names<'a>(old: &'a [u64], new: &'a [u64], row: &[u64], table: &[u16]) -> bool
-    requires { All (Stands old.now new.now) row.now }
-    ensures { result ≡ row_names table.now (map (operand_of old.now new.now) row.now) }
+pub fn row_names(stores: &TermStores<'_>, row: &[u64], table: &[u16]) -> bool
+    requires { All (Stands stores.now.old.now stores.now.new.now) row.now }
+    ensures { result ≡ row_names table.now (map (operand_of stores.now.old.now stores.now.new.now) row.now) }
 {
-    let mut i = 0;
-    while i < row.len() {
-        if operand_names(old, new, row[i], table) {
+    // Kept: as `any` the proof did not close, since what its closure calls asks something of each operand.
+    for h in row {
+        if operand_names(stores, *h, table) {
             return true;
         }
-        i += 1;
     }
     false
 }
 
 // An operand of a constraint, or the right side of a committed definition.
-pub fn process_operand<'a>(
-    old: &'a [u64],
-    new: &'a [u64],
-    rhss: &[u64],
-    table: &[u16],
-    decisions: &[u64],
-    alive: &[u64],
+pub fn process_operand(
+    source: &LentSource<'_>,
     out: &mut [u64],
     c: Cursor,
     h: u64,
     below: usize,
 ) -> Cursor
-    requires readable { Readable (source old.now new.now rhss.now table.now decisions.now alive.now) }
-    requires by_index { (w : ℕ) → Within (in_place_lem (source old.now new.now rhss.now table.now decisions.now alive.now)) below w }
-    requires rooted { Rooted old.now new.now h × (c.count ≤ length out.old) }
-    ensures { (spelt out.new result ≡ write_terms (spell (source old.now new.now rhss.now table.now decisions.now alive.now) below) (operand_of old.now new.now h) (spelt out.old c)) × (result.count ≤ length out.old) }
+    requires readable { Readable (source_of source.now) }
+    requires within { (w : ℕ) → Within (in_place (source_of source.now)) below w }
+    requires rooted { Rooted source.now.stores.old.now source.now.stores.new.now h × (c.count ≤ length out.old) }
+    ensures { (spelt out.new result ≡ write_terms (spell (source_of source.now) below) (operand_of source.now.stores.old.now source.now.stores.new.now h) (spelt out.old c)) × (result.count ≤ length out.old) }
 {
-    let ts = lower::operand_terms(old, new, h);
+    let ts = source.stores.terms(h);
     let mut cur = c;
-    let mut k = 0;
-    while k < ts.len() {
-        cur = crate::expand::expand_term(
-            old, new, rhss, table, decisions, alive, &mut *out, cur, ts[k], below,
-        );
-        k += 1;
+    for t in ts {
+        cur = crate::expand::expand_term(source, &mut *out, cur, *t, below);
     }
     cur
 }

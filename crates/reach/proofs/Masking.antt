@@ -33,7 +33,7 @@ use Rattle.patch.proofs.Parts.{lost, clash, all_members}
 use Rattle.patch.proofs.Chains.{inlined_defined}
 use Rattle.patch.proofs.Definitions.{stands, inlined_uncommitted}
 use Rattle.reach.specs.Alive.{or_all, through, IsAlive}
-use Rattle.reach.specs.Steps.{Held, rhs_at, dst_at, committed_at, mask_at_lem, alive_step, alive_from}
+use Rattle.reach.specs.Steps.{Held, rhs_at, dst_at, committed_at, mask_at, alive_step, alive_from}
 
 -- ---- places of a list
 
@@ -62,7 +62,7 @@ unfolding alive_from alive_step
 alive_length h [] l = refl
 alive_length h (d ∷ ds) l =
     on_cond (λ (k : List ℕ). length k ≡ length l) (committed_at h d) (λ e. alive_length h ds l)
-    (λ e. length-set (alive_from h ds l) (dst_at h d) (or_all (through (mask_at_lem (alive_from h ds l))) (rhs_at h d)) ∙ alive_length h ds l)
+    (λ e. length-set (alive_from h ds l) (dst_at h d) (or_all (through (mask_at (alive_from h ds l))) (rhs_at h d)) ∙ alive_length h ds l)
 
 -- the stores hold the definitions of the system
 pub record Holds (h : Held) (p : System) : Type 0 where
@@ -128,8 +128,8 @@ module _ (h : Held) (p : System) (m : ℕ) (once : Once p.linears) (small : All 
 
     record Made (ds l : List ℕ) : Type 0 where
       long : length l ≡ n
-      standing : (w : ℕ) → w < n → ((d : ℕ) → Memᴰ d ds → committed_at h d ≡ false → dst_of p d ≡ w → ⊥) → mask_at_lem l w ≡ ones
-      opened : (d : ℕ) → Memᴰ d ds → committed_at h d ≡ false → mask_at_lem l (dst_of p d) ≡ or_all (through (mask_at_lem l)) (rhs_of p d)
+      standing : (w : ℕ) → w < n → ((d : ℕ) → Memᴰ d ds → committed_at h d ≡ false → dst_of p d ≡ w → ⊥) → mask_at l w ≡ ones
+      opened : (d : ℕ) → Memᴰ d ds → committed_at h d ≡ false → mask_at l (dst_of p d) ≡ or_all (through (mask_at l)) (rhs_of p d)
 
     made_none : Made [] (replicate n ones)
     made_none = record {
@@ -150,17 +150,17 @@ module _ (h : Held) (p : System) (m : ℕ) (once : Once p.linears) (small : All 
       committed-made : committed_at h x ≡ true → Made (x ∷ ds) l
       committed-made e = record { long = made.long; standing = λ w b f. made.standing w b (λ d k. f d (Memᴰ.tail k)); opened = λ d k c. go d k c }
         where
-          go : (d : ℕ) → Memᴰ d (x ∷ ds) → committed_at h d ≡ false → mask_at_lem l (dst_of p d) ≡ or_all (through (mask_at_lem l)) (rhs_of p d)
+          go : (d : ℕ) → Memᴰ d (x ∷ ds) → committed_at h d ≡ false → mask_at l (dst_of p d) ≡ or_all (through (mask_at l)) (rhs_of p d)
           go d (Memᴰ.head q) c = absurd (clash e (ap (committed_at h) (sym q) ∙ c))
           go d (Memᴰ.tail k) c = made.opened d k c
 
       abbrev mask : ℕ
-      mask = or_all (through (mask_at_lem l)) (rhs_of p x)
+      mask = or_all (through (mask_at l)) (rhs_of p x)
 
       abbrev l2 : List ℕ
       l2 = set l (dst_of p x) mask
 
-      kept : (w : ℕ) → (w ≡ dst_of p x → ⊥) → mask_at_lem l2 w ≡ mask_at_lem l w
+      kept : (w : ℕ) → (w ≡ dst_of p x → ⊥) → mask_at l2 w ≡ mask_at l w
       kept w f = get_or-set_other l (dst_of p x) w mask 0 f
 
       open_made : committed_at h x ≡ false → Made (x ∷ ds) l2
@@ -170,18 +170,18 @@ module _ (h : Held) (p : System) (m : ℕ) (once : Once p.linears) (small : All 
         opened = λ d k c. go d k c;
       }
         where
-          here : mask_at_lem l2 (dst_of p x) ≡ or_all (through (mask_at_lem l2)) (rhs_of p x)
+          here : mask_at l2 (dst_of p x) ≡ or_all (through (mask_at l2)) (rhs_of p x)
           here =
               get_or-set_same l (dst_of p x) mask 0 (omega (arith, made.long, places x x_under))
-              ∙ or_same (mask_at_lem l) (mask_at_lem l2) (rhs_of p x) (λ u i. sym (kept u.wire (λ q. fresh (all x (link x x_under u i q)))))
+              ∙ or_same (mask_at l) (mask_at l2) (rhs_of p x) (λ u i. sym (kept u.wire (λ q. fresh (all x (link x x_under u i q)))))
 
-          go : (d : ℕ) → Memᴰ d (x ∷ ds) → committed_at h d ≡ false → mask_at_lem l2 (dst_of p d) ≡ or_all (through (mask_at_lem l2)) (rhs_of p d)
+          go : (d : ℕ) → Memᴰ d (x ∷ ds) → committed_at h d ≡ false → mask_at l2 (dst_of p d) ≡ or_all (through (mask_at l2)) (rhs_of p d)
           go d (Memᴰ.head q) c = rw q here
           go d (Memᴰ.tail k) c =
               let b = under d (Memᴰ.tail k) in
               kept (dst_of p d) (λ q. fresh (subst (λ (y : ℕ). Memᴰ y ds) (one_only d x b x_under q) k))
               ∙ made.opened d k c
-              ∙ or_same (mask_at_lem l) (mask_at_lem l2) (rhs_of p d) (λ u i. sym (kept u.wire (λ q. fresh (links_in (rhs_at h) table ds o d x k (link d b u i q)))))
+              ∙ or_same (mask_at l) (mask_at l2) (rhs_of p d) (λ u i. sym (kept u.wire (λ q. fresh (links_in (rhs_at h) table ds o d x k (link d b u i q)))))
 
       step_made : Made (x ∷ ds) (alive_step h x l)
       unfolding alive_step
@@ -205,7 +205,7 @@ module _ (h : Held) (p : System) (m : ℕ) (once : Once p.linears) (small : All 
       made = made_from_lem ds o under
 
       -- past the store nothing is defined
-      in_range : (w : ℕ) → w < n → get_or final w ones ≡ mask_at_lem final w
+      in_range : (w : ℕ) → w < n → get_or final w ones ≡ mask_at final w
       in_range w b = get_d_any final w ones 0 (omega (arith, made.long))
 
       out_of_range : (w : ℕ) → n ≤ w → get_or final w ones ≡ ones
@@ -226,6 +226,6 @@ module _ (h : Held) (p : System) (m : ℕ) (once : Once p.linears) (small : All 
               ap (λ (v : ℕ). get_or final v ones) a.wire
               ∙ in_range (dst_of p a.number) (places a.number a.under)
               ∙ made.opened a.number (whole a.number a.under) a.uncommitted
-              ∙ or_same (mask_at_lem final) (λ v. get_or final v ones) (rhs_of p a.number)
+              ∙ or_same (mask_at final) (λ v. get_or final v ones) (rhs_of p a.number)
               (λ u i. sym (in_range u.wire (all_at (λ (t : Term). t.wire < n) (rhs_of p a.number) u (named a.number a.under) i)))
               ∙ ap (or_all (through (λ v. get_or final v ones))) a.right

@@ -4,13 +4,13 @@ use Prim.Native.Nat.{ℕ, ◌+◌, ◌≤◌, ◌<◌}
 use mathlib.Core.Bool.{cond}
 use mathlib.Core.List.{List, map}
 use lib.Dec.{eqb}
-use lib.ListN.{length, get_or, set, take, drop, drop_of_length-le}
+use lib.ListN.{length, get_or, set, drop, drop_of_length-le}
 use lib.Bits.{bit_or}
 use Rattle.shift.specs.Shifts.{shift_at}
 use Rattle.operand.specs.Numbers.{Operand, term_of, operand_at, terms_at, operand_of}
 use Rattle.alive.specs.Masks.{ones, pulled}
 use Rattle.lower.specs.Lists.{All}
-use Rattle.lower.proofs.Firsts.{drop_step, part_step, part_end}
+use Rattle.lower.proofs.Firsts.{drop_step}
 use Rattle.lower.proofs.Alls.{all_unmap}
 use Rattle.reach.specs.Steps.{Held, dst_at, pull_term, pull_terms, pull_operands, reach_step, reach_from, Usable}
 
@@ -37,14 +37,14 @@ module _ (old new : List ℕ) (h : ℕ) (ts : List ℕ) (e : ts ≡ terms_at old
   pub operand_usable : (n : ℕ) → All (Usable n) (operand_of old new h) → All (λ (t : ℕ). Usable n (term_of t)) ts
   operand_usable n a = all_unmap (Usable n) term_of ts (subst (All (Usable n)) (sym operand_terms) a)
 
-module _ (old new hs : List ℕ) (n : ℕ) (long : n ≤ length hs) (l : List ℕ) (i : ℕ) where
-  pub operands_go : i < n → pull_operands old new (drop i (take n hs)) l ≡ pull_operands old new (drop (i + 1) (take n hs)) (pull_terms ones (operand_of old new (get_or hs i 0)) l)
+module _ (old new hs l : List ℕ) (i : ℕ) where
+  pub operands_go : i < length hs → pull_operands old new (drop i hs) l ≡ pull_operands old new (drop (i + 1) hs) (pull_terms ones (operand_of old new (get_or hs i 0)) l)
   unfolding pull_operands
-  operands_go h = ap (λ (x : List ℕ). pull_operands old new x l) (part_step hs n i 0 h long)
+  operands_go h = ap (λ (x : List ℕ). pull_operands old new x l) (drop_step hs i 0 h)
 
-  pub operands_end : n ≤ i → pull_operands old new (drop i (take n hs)) l ≡ l
+  pub operands_end : length hs ≤ i → pull_operands old new (drop i hs) l ≡ l
   unfolding pull_operands
-  operands_end h = ap (λ (x : List ℕ). pull_operands old new x l) (part_end hs n i long h)
+  operands_end h = ap (λ (x : List ℕ). pull_operands old new x l) (drop_of_length-le hs h)
 
 -- ---- definitions
 

@@ -19,7 +19,7 @@ use Rattle.legraph.proofs.Theorem.{count, rhs_same, dst_same, small}
 use Rattle.commit_set.specs.Numbers.{state_at}
 use Rattle.patch.specs.Expansion.{below, expand, Fits, Within}
 use Rattle.patch.specs.Patch.{commit_set, inlined}
-use Rattle.patch.specs.Spelling.{Source, source, place_of, in_place_lem, alive_at, dead, spell}
+use Rattle.patch.specs.Spelling.{Source, source, place_of, in_place, alive_at, dead, spell}
 use Rattle.patch.specs.Steps.{Does}
 use Rattle.patch.proofs.Parts.{lost}
 use Rattle.patch.proofs.Spelled.{does_spell}
@@ -46,8 +46,8 @@ module _ (z : Sizes) (s : Stores) (e : memory_fault 8192 z s ≡ 0) (once : Once
   holds : Holds h p
   holds = record { rhs_is = rhs_same z s e; dst_is = dst_same z s e }
 
-  pub place_is : (w : ℕ) → in_place_lem src w ≡ inlined p c w
-  unfolding in_place_lem inlined
+  pub place_is : (w : ℕ) → in_place src w ≡ inlined p c w
+  unfolding in_place inlined
   place_is w = go (get_or (table_of 4096 p) w 0) refl
     where
       go : (n : ℕ) → get_or (table_of 4096 p) w 0 ≡ n → place_of src n ≡ cond (c w) none (definition_of p.linears w)
@@ -57,8 +57,8 @@ module _ (z : Sizes) (s : Stores) (e : memory_fault 8192 z s ≡ 0) (once : Once
           let k : c w ≡ eqb (get_or decisions d 0) 0 = ap c (sym f.wire) ∙ decided_of h p 4096 once (small z s e) holds d f.under in
           rw (k, f.right, rhs_same z s e d f.under)
 
-  pub alive_held : AliveIn p c z.linears s.dsts out → (w : ℕ) (rhs : Operand) → in_place_lem src w ≡ some rhs → alive_at src (get_or (table_of 4096 p) w 0) ≡ alive_wire p c w
-  unfolding in_place_lem
+  pub alive_held : AliveIn p c z.linears s.dsts out → (w : ℕ) (rhs : Operand) → in_place src w ≡ some rhs → alive_at src (get_or (table_of 4096 p) w 0) ≡ alive_wire p c w
+  unfolding in_place
   alive_held a w rhs k = go (get_or (table_of 4096 p) w 0) refl k
     where
       go : (n : ℕ) → get_or (table_of 4096 p) w 0 ≡ n → place_of src n ≡ some rhs → alive_at src n ≡ alive_wire p c w
@@ -69,16 +69,16 @@ module _ (z : Sizes) (s : Stores) (e : memory_fault 8192 z s ≡ 0) (once : Once
 
   -- THE THEOREM. With the masks of the definitions, what is passed over expands to nothing.
   module _ (shifted : Shifted p) (no_circle : NoCircle p) (a : AliveIn p c z.linears s.dsts out) where
-    masks : IsAlive (in_place_lem src) (alive_wire p c)
+    masks : IsAlive (in_place src) (alive_wire p c)
     masks = record {
       alive_stands = λ w k. (wire_alive p c no_circle).alive_stands w (sym (place_is w) ∙ k);
       alive_opens = λ w rhs k. (wire_alive p c no_circle).alive_opens w rhs (sym (place_is w) ∙ k);
     }
 
-    pub source_tells : (n : ℕ) (t : Term) (rhs : Operand) → in_place_lem src t.wire ≡ some rhs → Within (in_place_lem src) (suc n) t.wire → Fits (in_place_lem src) (suc n) t → dead src t ≡ true
-        → below (expand (in_place_lem src) n) t rhs ≡ []
+    pub source_tells : (n : ℕ) (t : Term) (rhs : Operand) → in_place src t.wire ≡ some rhs → Within (in_place src) (suc n) t.wire → Fits (in_place src) (suc n) t → dead src t ≡ true
+        → below (expand (in_place src) n) t rhs ≡ []
     source_tells = dead_tells src (λ w rhs k. inlined_shifts p c shifted w rhs (sym (place_is w) ∙ k)) (alive_wire p c) masks (alive_held a)
 
     -- so what the program writes is the expansion
-    pub source_spells : (n : ℕ) (t : Term) → Within (in_place_lem src) n t.wire → Fits (in_place_lem src) n t → Does (spell src n t) (expand (in_place_lem src) n t) []
+    pub source_spells : (n : ℕ) (t : Term) → Within (in_place src) n t.wire → Fits (in_place src) n t → Does (spell src n t) (expand (in_place src) n t) []
     source_spells = does_spell src source_tells

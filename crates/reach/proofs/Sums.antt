@@ -35,13 +35,13 @@ use Rattle.patch.proofs.Parts.{Which, is_true, is_false, which, clash, all_each,
 use Rattle.patch.proofs.Definitions.{stands}
 use Rattle.reach.specs.Alive.{or_all}
 use Rattle.reach.specs.Reach.{from_root, from_term, from_definition, reach_by, IsReach}
-use Rattle.reach.specs.Steps.{Held, rhs_at, committed_at, mask_at_lem, pull_operands, taken, reach_from, Usable}
+use Rattle.reach.specs.Steps.{Held, rhs_at, committed_at, mask_at, pull_operands, taken, reach_from, Usable}
 use Rattle.reach.proofs.Joins.{or_all_lt, misses_all, misses_each}
 use Rattle.reach.proofs.Meeting.{roots_by, rows_by, commits-by, roots_of}
 use Rattle.reach.proofs.Masking.{Holds, committed-number, decided_of}
 use Rattle.reach.proofs.Taking.{operands_length, operands_words, operands_misses, from_words, from_misses}
 
-nought_at : (n w : ℕ) → mask_at_lem (replicate n 0) w ≡ 0
+nought_at : (n w : ℕ) → mask_at (replicate n 0) w ≡ 0
 nought_at zero w = refl
 nought_at (suc n) zero = refl
 nought_at (suc n) (suc w) = nought_at n w
@@ -68,7 +68,7 @@ module _ (h : Held) (p : System) (m : ℕ) (once : Once p.linears) (small : All 
   final = reach_from h ds begun
 
   abbrev r : ℕ → ℕ
-  r w = mask_at_lem final w
+  r w = mask_at final w
 
   begun-length : length begun ≡ n
   begun-length = operands_length h.old h.new hs (replicate n 0) ∙ length-replicate {A = ℕ} n 0
@@ -135,10 +135,10 @@ module _ (h : Held) (p : System) (m : ℕ) (once : Once p.linears) (small : All 
       terms_row : All (λ (g : ℕ). All P (operand_of h.old h.new g)) hs → All (All P) (row_operands p)
       terms_row k = subst (All (All P)) (sym rows) (all_map (All P) (operand_of h.old h.new) hs k)
 
-      begun_misses : bit_and x (mask_at_lem begun w) ≡ 0 ↔ (bit_and x (mask_at_lem (replicate n 0) w) ≡ 0) × All (λ (g : ℕ). All P (operand_of h.old h.new g)) hs
+      begun_misses : bit_and x (mask_at begun w) ≡ 0 ↔ (bit_and x (mask_at (replicate n 0) w) ≡ 0) × All (λ (g : ℕ). All P (operand_of h.old h.new g)) hs
       begun_misses = operands_misses h.old h.new hs (replicate n 0) w x b usable_begun
 
-      final_misses : bit_and x (r w) ≡ 0 ↔ (bit_and x (mask_at_lem begun w) ≡ 0) × ((d : ℕ) → Memᴰ d ds → All (λ (u : Term). bit_and x (from_term (taken h d final) w u) ≡ 0) (rhs_at h d))
+      final_misses : bit_and x (r w) ≡ 0 ↔ (bit_and x (mask_at begun w) ≡ 0) × ((d : ℕ) → Memᴰ d ds → All (λ (u : Term). bit_and x (from_term (taken h d final) w u) ≡ 0) (rhs_at h d))
       final_misses = from_misses h p m once small is n usable ds begun o below begun-length w x b
 
       -- what the terms of a definition take in
@@ -182,7 +182,7 @@ module _ (h : Held) (p : System) (m : ℕ) (once : Once p.linears) (small : All 
           on_cond (λ (y : ℕ). bit_and x y ≡ 0) (c (dst_of p d)) (λ q. and_zero_r x)
           (λ q. misses_all (from_term (r (dst_of p d)) w) x b (subst (λ (X : Type 0). X) (as_open d l (sym (decided_of h p m once small is d l) ∙ q)) (ended.1 d (whole d l)))))))
         where
-          ended : (bit_and x (mask_at_lem begun w) ≡ 0) × ((d : ℕ) → Memᴰ d ds → Taken d)
+          ended : (bit_and x (mask_at begun w) ≡ 0) × ((d : ℕ) → Memᴰ d ds → Taken d)
           ended = final_misses.0 z
 
           committed_terms : (v : ℕ) (s : Operand) → c v ≡ true → definition_of p.linears v ≡ some s → All P s

@@ -27,11 +27,11 @@ use Rattle.legraph.proofs.Listing.{table_of, found-by}
 use Rattle.shift.proofs.Numbers.{valid_at}
 use Rattle.patch.proofs.Parts.{all_members}
 use Rattle.reach.specs.Reach.{from_term}
-use Rattle.reach.specs.Steps.{Held, rhs_at, dst_at, committed_at, mask_at_lem, pull_term, pull_terms, pull_operands, taken, reach_step, reach_from, Usable}
+use Rattle.reach.specs.Steps.{Held, rhs_at, dst_at, committed_at, mask_at, pull_term, pull_terms, pull_operands, taken, reach_step, reach_from, Usable}
 use Rattle.reach.proofs.Masking.{Holds}
 
 abbrev Words : List ℕ → Type 0
-Words l = (w : ℕ) → mask_at_lem l w < 2 ^ 64
+Words l = (w : ℕ) → mask_at l w < 2 ^ 64
 
 -- ---- one term
 
@@ -41,31 +41,31 @@ module _ (m : ℕ) (u : Term) (l : List ℕ) where
 
   term_length : length (pull_term m u l) ≡ length l
   unfolding pull_term
-  term_length = length-set l u.wire (bit_or (mask_at_lem l u.wire) bits)
+  term_length = length-set l u.wire (bit_or (mask_at l u.wire) bits)
 
-  term_other : (w : ℕ) → (u.wire ≡ w → ⊥) → mask_at_lem (pull_term m u l) w ≡ mask_at_lem l w
+  term_other : (w : ℕ) → (u.wire ≡ w → ⊥) → mask_at (pull_term m u l) w ≡ mask_at l w
   unfolding pull_term
-  term_other w n = get_or-set_other l u.wire w (bit_or (mask_at_lem l u.wire) bits) 0 (λ q. n (sym q))
+  term_other w n = get_or-set_other l u.wire w (bit_or (mask_at l u.wire) bits) 0 (λ q. n (sym q))
 
-  term_here : (w : ℕ) → u.wire ≡ w → u.wire < length l → mask_at_lem (pull_term m u l) w ≡ bit_or (mask_at_lem l w) bits
+  term_here : (w : ℕ) → u.wire ≡ w → u.wire < length l → mask_at (pull_term m u l) w ≡ bit_or (mask_at l w) bits
   unfolding pull_term
-  term_here w e b = rw (sym e) (get_or-set_same l u.wire (bit_or (mask_at_lem l u.wire) bits) 0 b)
+  term_here w e b = rw (sym e) (get_or-set_same l u.wire (bit_or (mask_at l u.wire) bits) 0 b)
 
   term_words : m < 2 ^ 64 → Usable (length l) u → Words l → Words (pull_term m u l)
   term_words h k f w = go (eqb u.wire w) refl
     where
-      go : (b : Bool) → eqb u.wire w ≡ b → mask_at_lem (pull_term m u l) w < 2 ^ 64
-      go true e = subst (λ (x : ℕ). x < 2 ^ 64) (sym (term_here w (eqb-true u.wire w e) k.0)) (or_lt 64 (mask_at_lem l w) bits (f w) (pulled_lt (shift_at u.inner) (valid_at u.inner k.1) m h))
+      go : (b : Bool) → eqb u.wire w ≡ b → mask_at (pull_term m u l) w < 2 ^ 64
+      go true e = subst (λ (x : ℕ). x < 2 ^ 64) (sym (term_here w (eqb-true u.wire w e) k.0)) (or_lt 64 (mask_at l w) bits (f w) (pulled_lt (shift_at u.inner) (valid_at u.inner k.1) m h))
       go false e = subst (λ (x : ℕ). x < 2 ^ 64) (sym (term_other w (eqb-false u.wire w e))) (f w)
 
-  term_misses : (w y : ℕ) → y < 2 ^ 64 → u.wire < length l → bit_and y (mask_at_lem (pull_term m u l) w) ≡ 0 ↔ (bit_and y (mask_at_lem l w) ≡ 0) × (bit_and y (from_term m w u) ≡ 0)
+  term_misses : (w y : ℕ) → y < 2 ^ 64 → u.wire < length l → bit_and y (mask_at (pull_term m u l) w) ≡ 0 ↔ (bit_and y (mask_at l w) ≡ 0) × (bit_and y (from_term m w u) ≡ 0)
   term_misses w y h k = go (eqb u.wire w) refl
     where
-      go : (b : Bool) → eqb u.wire w ≡ b → bit_and y (mask_at_lem (pull_term m u l) w) ≡ 0 ↔ (bit_and y (mask_at_lem l w) ≡ 0) × (bit_and y (cond b bits 0) ≡ 0)
+      go : (b : Bool) → eqb u.wire w ≡ b → bit_and y (mask_at (pull_term m u l) w) ≡ 0 ↔ (bit_and y (mask_at l w) ≡ 0) × (bit_and y (cond b bits 0) ≡ 0)
       go true e =
           let q = term_here w (eqb-true u.wire w e) k in (
-            λ z. let x = ap (bit_and y) (sym q) ∙ z in (misses_left 64 y (mask_at_lem l w) bits h x, misses_right 64 y (mask_at_lem l w) bits h x),
-            λ z. ap (bit_and y) q ∙ misses_or 64 y (mask_at_lem l w) bits h z.0 z.1,
+            λ z. let x = ap (bit_and y) (sym q) ∙ z in (misses_left 64 y (mask_at l w) bits h x, misses_right 64 y (mask_at l w) bits h x),
+            λ z. ap (bit_and y) q ∙ misses_or 64 y (mask_at l w) bits h z.0 z.1,
           )
       go false e = let q = term_other w (eqb-false u.wire w e) in (λ z. (ap (bit_and y) (sym q) ∙ z, and_zero_r y), λ z. ap (bit_and y) q ∙ z.0)
 
@@ -76,7 +76,7 @@ unfolding pull_terms
 terms_length m [] l = refl
 terms_length m (u ∷ us) l = terms_length m us (pull_term m u l) ∙ term_length m u l
 
-terms_other : (m : ℕ) (us : Operand) (l : List ℕ) (w : ℕ) → All (λ (u : Term). u.wire ≡ w → ⊥) us → mask_at_lem (pull_terms m us l) w ≡ mask_at_lem l w
+terms_other : (m : ℕ) (us : Operand) (l : List ℕ) (w : ℕ) → All (λ (u : Term). u.wire ≡ w → ⊥) us → mask_at (pull_terms m us l) w ≡ mask_at l w
 unfolding pull_terms
 terms_other m [] l w done = refl
 terms_other m (u ∷ us) l w (more h t) = terms_other m us (pull_term m u l) w t ∙ term_other m u l w h
@@ -88,7 +88,7 @@ terms_words m (u ∷ us) l h (more k t) f =
     terms_words m us (pull_term m u l) h (subst (λ (n : ℕ). All (Usable n) us) (sym (term_length m u l)) t) (term_words m u l h k f)
 
 terms_misses : (m : ℕ) (us : Operand) (l : List ℕ) (w y : ℕ) → y < 2 ^ 64 → All (Usable (length l)) us
-    → bit_and y (mask_at_lem (pull_terms m us l) w) ≡ 0 ↔ (bit_and y (mask_at_lem l w) ≡ 0) × All (λ (u : Term). bit_and y (from_term m w u) ≡ 0) us
+    → bit_and y (mask_at (pull_terms m us l) w) ≡ 0 ↔ (bit_and y (mask_at l w) ≡ 0) × All (λ (u : Term). bit_and y (from_term m w u) ≡ 0) us
 unfolding pull_terms
 terms_misses m [] l w y b done = (λ z. (z, done), λ z. z.0)
 terms_misses m (u ∷ us) l w y b (more k t) =
@@ -98,9 +98,9 @@ terms_misses m (u ∷ us) l w y b (more k t) =
       λ z. step i s z.0 z.1,
     )
   where
-    step : (bit_and y (mask_at_lem (pull_terms m us (pull_term m u l)) w) ≡ 0 ↔ (bit_and y (mask_at_lem (pull_term m u l) w) ≡ 0) × All (λ (v : Term). bit_and y (from_term m w v) ≡ 0) us)
-        → (bit_and y (mask_at_lem (pull_term m u l) w) ≡ 0 ↔ (bit_and y (mask_at_lem l w) ≡ 0) × (bit_and y (from_term m w u) ≡ 0))
-        → bit_and y (mask_at_lem l w) ≡ 0 → All (λ (v : Term). bit_and y (from_term m w v) ≡ 0) (u ∷ us) → bit_and y (mask_at_lem (pull_terms m us (pull_term m u l)) w) ≡ 0
+    step : (bit_and y (mask_at (pull_terms m us (pull_term m u l)) w) ≡ 0 ↔ (bit_and y (mask_at (pull_term m u l) w) ≡ 0) × All (λ (v : Term). bit_and y (from_term m w v) ≡ 0) us)
+        → (bit_and y (mask_at (pull_term m u l) w) ≡ 0 ↔ (bit_and y (mask_at l w) ≡ 0) × (bit_and y (from_term m w u) ≡ 0))
+        → bit_and y (mask_at l w) ≡ 0 → All (λ (v : Term). bit_and y (from_term m w v) ≡ 0) (u ∷ us) → bit_and y (mask_at (pull_terms m us (pull_term m u l)) w) ≡ 0
     step i s z (more a c) = i.1 (s.1 (z, a), c)
 
 -- ---- operands of which every bit gets in
@@ -122,7 +122,7 @@ module _ (old new : List ℕ) where
       (terms_words ones (operand_of old new h) l (lit< tt) k f)
 
   pub operands_misses : (hs l : List ℕ) (w y : ℕ) → y < 2 ^ 64 → Usables (length l) hs
-      → bit_and y (mask_at_lem (pull_operands old new hs l) w) ≡ 0 ↔ (bit_and y (mask_at_lem l w) ≡ 0) × All (λ (h : ℕ). All (λ (u : Term). bit_and y (from_term ones w u) ≡ 0) (operand_of old new h)) hs
+      → bit_and y (mask_at (pull_operands old new hs l) w) ≡ 0 ↔ (bit_and y (mask_at l w) ≡ 0) × All (λ (h : ℕ). All (λ (u : Term). bit_and y (from_term ones w u) ≡ 0) (operand_of old new h)) hs
   unfolding pull_operands
   operands_misses [] l w y b done = (λ z. (z, done), λ z. z.0)
   operands_misses (h ∷ hs) l w y b (more k t) =
@@ -132,11 +132,11 @@ module _ (old new : List ℕ) where
         λ z. step i s z.0 z.1,
       )
     where
-      step : (bit_and y (mask_at_lem (pull_operands old new hs (pull_terms ones (operand_of old new h) l)) w) ≡ 0
-          ↔ (bit_and y (mask_at_lem (pull_terms ones (operand_of old new h) l) w) ≡ 0) × All (λ (g : ℕ). All (λ (u : Term). bit_and y (from_term ones w u) ≡ 0) (operand_of old new g)) hs)
-          → (bit_and y (mask_at_lem (pull_terms ones (operand_of old new h) l) w) ≡ 0 ↔ (bit_and y (mask_at_lem l w) ≡ 0) × All (λ (u : Term). bit_and y (from_term ones w u) ≡ 0) (operand_of old new h))
-          → bit_and y (mask_at_lem l w) ≡ 0 → All (λ (g : ℕ). All (λ (u : Term). bit_and y (from_term ones w u) ≡ 0) (operand_of old new g)) (h ∷ hs)
-          → bit_and y (mask_at_lem (pull_operands old new hs (pull_terms ones (operand_of old new h) l)) w) ≡ 0
+      step : (bit_and y (mask_at (pull_operands old new hs (pull_terms ones (operand_of old new h) l)) w) ≡ 0
+          ↔ (bit_and y (mask_at (pull_terms ones (operand_of old new h) l) w) ≡ 0) × All (λ (g : ℕ). All (λ (u : Term). bit_and y (from_term ones w u) ≡ 0) (operand_of old new g)) hs)
+          → (bit_and y (mask_at (pull_terms ones (operand_of old new h) l) w) ≡ 0 ↔ (bit_and y (mask_at l w) ≡ 0) × All (λ (u : Term). bit_and y (from_term ones w u) ≡ 0) (operand_of old new h))
+          → bit_and y (mask_at l w) ≡ 0 → All (λ (g : ℕ). All (λ (u : Term). bit_and y (from_term ones w u) ≡ 0) (operand_of old new g)) (h ∷ hs)
+          → bit_and y (mask_at (pull_operands old new hs (pull_terms ones (operand_of old new h) l)) w) ≡ 0
       step i s z (more a c) = i.1 (s.1 (z, a), c)
 
 -- ---- definitions in an order
@@ -161,7 +161,7 @@ module _ (h : Held) (p : System) (m : ℕ) (once : Once p.linears) (small : All 
   from_length [] l = refl
   from_length (x ∷ ds) l = from_length ds (reach_step h x l) ∙ terms_length (taken h x l) (rhs_at h x) l
 
-  from_other : (ds l : List ℕ) (w : ℕ) → ((d : ℕ) → Memᴰ d ds → (u : Term) → Memᴰ u (rhs_at h d) → u.wire ≡ w → ⊥) → mask_at_lem (reach_from h ds l) w ≡ mask_at_lem l w
+  from_other : (ds l : List ℕ) (w : ℕ) → ((d : ℕ) → Memᴰ d ds → (u : Term) → Memᴰ u (rhs_at h d) → u.wire ≡ w → ⊥) → mask_at (reach_from h ds l) w ≡ mask_at l w
   unfolding reach_from reach_step
   from_other [] l w f = refl
   from_other (x ∷ ds) l w f =
@@ -189,12 +189,12 @@ module _ (h : Held) (p : System) (m : ℕ) (once : Once p.linears) (small : All 
     abbrev last : List ℕ
     last = reach_from h ds (reach_step h x l)
 
-    first : bit_and y (mask_at_lem (reach_step h x l) w) ≡ 0 ↔ (bit_and y (mask_at_lem l w) ≡ 0) × Takes w y l x
+    first : bit_and y (mask_at (reach_step h x l) w) ≡ 0 ↔ (bit_and y (mask_at l w) ≡ 0) × Takes w y l x
     unfolding reach_step
     first = terms_misses (taken h x l) (rhs_at h x) l w y b (rw k (usable x x_under))
 
     -- from its turn on the mask of x stays: no definition that is left names it, nor does x
-    stays : mask_at_lem last (dst_at h x) ≡ mask_at_lem l (dst_at h x)
+    stays : mask_at last (dst_at h x) ≡ mask_at l (dst_at h x)
     unfolding reach_step
     stays =
         from_other ds (reach_step h x l) (dst_at h x) (λ d i u j q. fresh (links_in (rhs_at h) table ds o d x i (link d x x_under u j q)))
@@ -207,15 +207,15 @@ module _ (h : Held) (p : System) (m : ℕ) (once : Once p.linears) (small : All 
     each t f d (Memᴰ.head q) = subst (λ (e : ℕ). Takes w y last e) (sym q) (subst (λ (X : Type 0). X) (sym same) t)
     each t f d (Memᴰ.tail i) = f d i
 
-    with_first : (bit_and y (mask_at_lem last w) ≡ 0 ↔ (bit_and y (mask_at_lem (reach_step h x l) w) ≡ 0) × ((d : ℕ) → Memᴰ d ds → Takes w y last d))
-        → bit_and y (mask_at_lem last w) ≡ 0 ↔ (bit_and y (mask_at_lem l w) ≡ 0) × ((d : ℕ) → Memᴰ d (x ∷ ds) → Takes w y last d)
+    with_first : (bit_and y (mask_at last w) ≡ 0 ↔ (bit_and y (mask_at (reach_step h x l) w) ≡ 0) × ((d : ℕ) → Memᴰ d ds → Takes w y last d))
+        → bit_and y (mask_at last w) ≡ 0 ↔ (bit_and y (mask_at l w) ≡ 0) × ((d : ℕ) → Memᴰ d (x ∷ ds) → Takes w y last d)
     with_first later = (
       λ z. let v = later.0 z in let t = first.0 v.0 in (t.0, each t.1 v.1),
       λ z. later.1 (first.1 (z.0, subst (λ (X : Type 0). X) same (z.1 x (Memᴰ.head refl))), λ d i. z.1 d (Memᴰ.tail i)),
     )
 
   pub from_misses : (ds l : List ℕ) → Posted (rhs_at h) table ds → Below ds → length l ≡ n → (w y : ℕ) → y < 2 ^ 64
-      → bit_and y (mask_at_lem (reach_from h ds l) w) ≡ 0 ↔ (bit_and y (mask_at_lem l w) ≡ 0) × ((d : ℕ) → Memᴰ d ds → Takes w y (reach_from h ds l) d)
+      → bit_and y (mask_at (reach_from h ds l) w) ≡ 0 ↔ (bit_and y (mask_at l w) ≡ 0) × ((d : ℕ) → Memᴰ d ds → Takes w y (reach_from h ds l) d)
   unfolding reach_from
   from_misses [] l o below k w y b = (λ z. (z, λ d i. absurd (Memᴰ.not-nil i)), λ z. z.0)
   from_misses (x ∷ ds) l (O.more fresh all o) below k w y b =

@@ -1,11 +1,11 @@
 -- The masks of a system in stores, made in an order of its definitions. Assumes nothing.
 use mathlib.Core.Path.{◌≡◌, refl, sym, ap, ◌∙◌, subst}
-use Prim.Native.Nat.{ℕ, ◌+◌, ◌*◌, ◌≤◌, ◌<◌}
+use Prim.Native.Nat.{ℕ, ◌*◌, ◌≤◌, ◌<◌}
 use native.Mathlib.Omega.{arith}
 use mathlib.Core.List.{List, [], ◌∷◌, ◌++◌, Memᴰ}
-use lib.ListN.{length, get_or, set, take, replicate, length-set, length-replicate}
-use lib.Seq.{get_or-set_same, get_or-set_other, drop-set-lt}
-use native.Mathlib.Decide.{ℕ_discrete}
+use lib.ListN.{length, get_or, take, replicate, length-replicate}
+use lib.Seq.{length-take-le}
+use Rattle.std.proofs.lemmas.List.{get_or-take}
 use Rattle.operand.specs.Numbers.{operand_of}
 use Rattle.alive.specs.Masks.{ones}
 use Rattle.lower.specs.declared.Sizes.{Sizes}
@@ -32,7 +32,7 @@ use Rattle.patch.specs.Patch.{commit_set, inlined}
 use Rattle.patch.proofs.Parts.{all_each, all_two, all_members}
 use Rattle.reach.specs.Alive.{IsAlive, AliveIn}
 use Rattle.reach.specs.Reach.{IsReach, ReachIn}
-use Rattle.reach.specs.Steps.{Held, held, Gathered, Filled, Order, Pullable, rhs_at, mask_at_lem, alive_from, pull_operands, reach_from, Usable, Able}
+use Rattle.reach.specs.Steps.{Held, held, Gathered, Filled, Order, Pullable, rhs_at, mask_at, alive_from, pull_operands, reach_from, Usable, Able}
 use Rattle.reach.proofs.Writing.{alive_only}
 use Rattle.reach.proofs.Masking.{Holds, get_d_any, alive_length, masks_alive}
 use Rattle.reach.proofs.Sums.{masks_reach}
@@ -42,19 +42,15 @@ unfolding pull_operands
 operands_join old new [] b l = refl
 operands_join old new (h ∷ a) b l = operands_join old new a b _
 
-pub gather-same : {n : ℕ} {dsts masks masks2 out : List ℕ} → masks ≡ masks2 → Gathered n dsts masks out → Gathered n dsts masks2 out
-gather-same {n} {dsts} {masks} {masks2} {out} e g = subst (λ (m : List ℕ). Gathered n dsts m out) e g
+-- the list of destinations is cut to the definitions
+module _ {n : ℕ} (dsts : List ℕ) (long : n ≤ length dsts) where
+  pub gather_cut : {masks masks2 out : List ℕ} → masks ≡ masks2 → Gathered (length (take n dsts)) (take n dsts) masks out → Gathered n dsts masks2 out
+  gather_cut {masks} {masks2} {out} e g = record {
+    gathered = λ d l. g.gathered d (omega (arith, l, length-take-le n dsts long)) ∙ ap (mask_at masks) (get_or-take n dsts d 0 l) ∙ ap (λ (m : List ℕ). mask_at m (get_or dsts d 0)) e;
+  }
 
-pub gather_next : (i : ℕ) (dsts masks out : List ℕ) → Gathered i dsts masks out → i < length out → Gathered (i + 1) dsts masks (set out i (mask_at_lem masks (get_or dsts i 0)))
-gather_next i dsts masks out f b = record {
-  gathered = λ d l. elim (ℕ_discrete d i) [
-    | yes q ↦ rw q (get_or-set_same out i (mask_at_lem masks (get_or dsts i 0)) 0 b)
-    | no q ↦ get_or-set_other out i d (mask_at_lem masks (get_or dsts i 0)) 0 q ∙ f.gathered d (omega arith)
-  ];
-}
-
-pub fill_next : (n i a : ℕ) (before out : List ℕ) → Filled n before out → i < n → Filled n before (set out i a)
-fill_next n i a before out f b = record { long = length-set out i a ∙ f.long; kept = drop-set-lt n out i a b ∙ f.kept }
+  pub fill_cut : {before out : List ℕ} → Filled (length (take n dsts)) before out → Filled n before out
+  fill_cut {before} {out} f = subst (λ (m : ℕ). Filled m before out) (length-take-le n dsts long) f
 
 module _ (z : Sizes) (s : Stores) (e : memory_fault 8192 z s ≡ 0) (decisions : List ℕ) where
   abbrev p : System
@@ -107,7 +103,7 @@ module _ (z : Sizes) (s : Stores) (e : memory_fault 8192 z s ≡ 0) (decisions :
         masks_alive h p 4096 once (small z s e) holds 4096 (λ d l. omega (arith, dst_named d l, few))
         (λ d l. all_each (λ u k. k.0) (subst (All (Usable 4096)) (rhs_same z s e d l) (rhs_usable d l))) ds o below whole
 
-    pub reach_made : Single p → IsReach p (commit_set p (state_at decisions)) (mask_at_lem (reach_from h ds (pull_operands s.old s.new (row_handles z s.ands s.imuls s.bmuls s.zeros) (replicate 4096 0))))
+    pub reach_made : Single p → IsReach p (commit_set p (state_at decisions)) (mask_at (reach_from h ds (pull_operands s.old s.new (row_handles z s.ands s.imuls s.bmuls s.zeros) (replicate 4096 0))))
     reach_made single =
         masks_reach h p 4096 once (small z s e) holds 4096 rhs_usable dst_named single right.0.2
         (row_handles z s.ands s.imuls s.bmuls s.zeros) (rows_model z s) row_usable ds o below whole
@@ -144,7 +140,7 @@ module _ (z : Sizes) (s : Stores) (e : memory_fault 8192 z s ≡ 0) (decisions :
         → Gathered z.linears s.dsts (reach_from h ds (pull_operands s.old s.new (row_handles z s.ands s.imuls s.bmuls s.zeros) (replicate 4096 0))) out
         → ReachIn p (commit_set p (state_at decisions)) z.linears s.dsts out
     reach_answer single out g = record {
-      reach = mask_at_lem (reach_from h ds (pull_operands s.old s.new (row_handles z s.ands s.imuls s.bmuls s.zeros) (replicate 4096 0)));
+      reach = mask_at (reach_from h ds (pull_operands s.old s.new (row_handles z s.ands s.imuls s.bmuls s.zeros) (replicate 4096 0)));
       is_reach = reach_made once ds ordered below whole single;
       stands_in = g.gathered;
     }

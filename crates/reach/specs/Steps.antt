@@ -1,7 +1,8 @@
 -- The masks in stores: one number a wire, made definition by definition.
 --
 --   Held                the definitions in stores, and what is decided of each
---   mask_at_lem l w          the mask of the wire w in the store l
+--   held_in             those of a system that is lent
+--   mask_at l w          the mask of the wire w in the store l
 --   alive_step h d l     the store l after the definition d: the mask of its wire is made from those of its terms' wires, unless it is committed
 --   alive_from h ds l    the store l after the definitions ds, the last one first
 --   pull_term m u l      the store l after the term u of an operand of which the bits m get in; pull_terms, after an operand's terms;
@@ -10,21 +11,23 @@
 --   reach_step h d l     the store l after the definition d; reach_from, after the definitions ds, one after the other
 --   Gathered n dsts masks out   the masks of the wires of n definitions stand in the store `out`, one number a definition
 --   Filled n before out         of the store `before` there is left `out`: at most its first n numbers are written
---   Order rhs table n ds        an order of n definitions, each before those that it names
+--   Order rhs table n ds        an order of n definitions, each before those that it names; OrderOf, of the definitions of a system that is lent
 --   Pullable .. hs n            the first n of the operands hs end within their stores, and their terms are usable
 --   Usable n t          the term t names one of n wires, and its shift is valid
 --   Able h n d          what is needed of the definition d: it has its right side, its destination is one of n wires, its terms are usable
 --
 -- Assumes nothing.
-use Rattle.std.specs.Prelude.{◌≡◌, ℕ, ◌≤◌, ◌<◌, Bool, true, cond, eqb, length, get_or, set, take, drop}
+use Rattle.std.specs.Prelude.{◌≡◌, ℕ, ◌≤◌, ◌<◌, Bool, true, cond, eqb, length, get_or, set, take, drop, replicate}
 use mathlib.Core.List.{List, [], ◌∷◌, Memᴰ}
 use Rattle.std.specs.Int.Bits.{bit_or}
 use Rattle.shift.specs.Shifts.{valid_number, shift_at}
 use Rattle.operand.specs.Numbers.{Term, Operand, operand_of}
 use Rattle.alive.specs.Masks.{ones, pulled}
+use Rattle.lower.specs.declared.LentSystem.{LentSystem}
 use Rattle.lower.specs.Lists.{All}
 use Rattle.lower.specs.Stores.{Stands}
 use Rattle.legraph.specs.Orders.{Posted}
+use Rattle.legraph.specs.Tables.{numbered}
 use Rattle.legraph.specs.Walked.{rhs_in}
 use Rattle.reach.specs.Alive.{or_all, through}
 
@@ -38,6 +41,9 @@ pub record Held : Type 0 where
 abbrev pub held : List ℕ → List ℕ → List ℕ → List ℕ → List ℕ → Held
 held old new dsts rhss decisions = record { old = old; new = new; dsts = dsts; rhss = rhss; decisions = decisions }
 
+abbrev pub held_in : LentSystem → List ℕ → Held
+held_in s decisions = held s.stores.old.now s.stores.new.now s.dsts.now s.rhss.now decisions
+
 abbrev pub rhs_at : Held → ℕ → Operand
 rhs_at h d = rhs_in h.old h.new h.rhss d
 
@@ -48,11 +54,11 @@ dst_at h d = get_or h.dsts d 0
 abbrev pub committed_at : Held → ℕ → Bool
 committed_at h d = eqb (get_or h.decisions d 0) 0
 
-abbrev pub mask_at_lem : List ℕ → ℕ → ℕ
-mask_at_lem l w = get_or l w 0
+abbrev pub mask_at : List ℕ → ℕ → ℕ
+mask_at l w = get_or l w 0
 
 unfoldable pub alive_step : Held → ℕ → List ℕ → List ℕ
-alive_step h d l = cond (committed_at h d) l (set l (dst_at h d) (or_all (through (mask_at_lem l)) (rhs_at h d)))
+alive_step h d l = cond (committed_at h d) l (set l (dst_at h d) (or_all (through (mask_at l)) (rhs_at h d)))
 
 unfoldable pub alive_from : Held → List ℕ → List ℕ → List ℕ
 alive_from h [] l = l
@@ -72,7 +78,7 @@ pub record Able (h : Held) (n d : ℕ) : Type 0 where
 -- ---- the bits that get into rebuilt operands
 
 unfoldable pub pull_term : ℕ → Term → List ℕ → List ℕ
-pull_term m u l = set l u.wire (bit_or (mask_at_lem l u.wire) (pulled (shift_at u.inner) m))
+pull_term m u l = set l u.wire (bit_or (mask_at l u.wire) (pulled (shift_at u.inner) m))
 
 unfoldable pub pull_terms : ℕ → Operand → List ℕ → List ℕ
 pull_terms m [] l = l
@@ -83,7 +89,7 @@ pull_operands old new [] l = l
 pull_operands old new (h ∷ hs) l = pull_operands old new hs (pull_terms ones (operand_of old new h) l)
 
 abbrev pub taken : Held → ℕ → List ℕ → ℕ
-taken h d l = cond (committed_at h d) ones (mask_at_lem l (dst_at h d))
+taken h d l = cond (committed_at h d) ones (mask_at l (dst_at h d))
 
 unfoldable pub reach_step : Held → ℕ → List ℕ → List ℕ
 reach_step h d l = pull_terms (taken h d l) (rhs_at h d) l
@@ -94,7 +100,7 @@ reach_from h (d ∷ ds) l = reach_from h ds (reach_step h d l)
 
 -- the masks of the wires of n definitions, one number a definition
 pub record Gathered (n : ℕ) (dsts masks out : List ℕ) : Type 0 where
-  pub gathered : (d : ℕ) → d < n → get_or out d 0 ≡ mask_at_lem masks (get_or dsts d 0)
+  pub gathered : (d : ℕ) → d < n → get_or out d 0 ≡ mask_at masks (get_or dsts d 0)
 
 -- the rest is kept
 pub record Filled (n : ℕ) (before out : List ℕ) : Type 0 where
@@ -106,6 +112,10 @@ pub record Order (rhs : ℕ → Operand) (table : List ℕ) (n : ℕ) (ds : List
   pub posted : Posted rhs table ds
   pub only : (d : ℕ) → Memᴰ d ds → d < n
   pub whole : (d : ℕ) → d < n → Memᴰ d ds
+
+-- by the table that the program makes: which definition each of 4096 wires has
+abbrev pub OrderOf : LentSystem → List ℕ → Type 0
+OrderOf s ds = Order (rhs_in s.stores.old.now s.stores.new.now s.rhss.now) (numbered 0 (take s.sizes.linears s.dsts.now) (replicate 4096 0)) s.sizes.linears ds
 
 -- the first n of the operands hs end within their stores, and their terms are usable
 pub record Pullable (old new : List ℕ) (wires : ℕ) (hs : List ℕ) (n : ℕ) : Type 0 where

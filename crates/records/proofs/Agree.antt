@@ -5,21 +5,21 @@ use Prim.Native.Nat.{ℕ}
 use native.Mathlib.Omega.{arith}
 use mathlib.Core.List.{List, [], ◌∷◌}
 use lib.ListN.{length}
+use Rattle.std.proofs.Common.{Result, Ok, Err}
+use Rattle.refusal.specs.declared.Refusal.{Refusal}
 use Rattle.lower.specs.declared.Sizes.{Sizes}
+use Rattle.lower.proofs.Refusals.{number_once}
 use Rattle.evaluate.specs.Evaluation.{EvaluateIs}
-use Rattle.evaluate.specs.declared.Evaluated.{Evaluated}
 use Rattle.evaluate.proofs.Once.{evaluate_once}
 use Rattle.fill_back.specs.Filling.{FillsIs}
 use Rattle.fill_back.proofs.Once.{fills_once}
 use Rattle.house_write.specs.Write.{WriteIs}
-use Rattle.house_write.specs.declared.Written.{Written}
 use Rattle.house_write.proofs.Once.{write_once}
-use Rattle.house_file.specs.declared.Read.{Read}
+use Rattle.house_file.specs.declared.FileRead.{FileRead}
+use Rattle.house_file.specs.declared.FileFault.{FileFault}
 use Rattle.house_read.specs.Answer.{ReadIs}
 use Rattle.house_read.proofs.Files.{Same, read_once}
 use Rattle.fusion.specs.declared.Counts.{Counts}
-use Rattle.fusion.specs.declared.Fused.{Fused}
-use Rattle.fusion.specs.declared.Fused.TheVariants.{Done, Refused}
 use Rattle.fusion.specs.Left.{Lent, lent}
 use Rattle.fusion.specs.Answer.{told_fused, Fuses}
 use Rattle.fusion.proofs.Once.{fuses_once}
@@ -45,12 +45,12 @@ made-same (x ∷ xs) = ap (λ (l : List Definition). x ∷ l) (made-same xs)
 
 -- ---- fusing
 -- number and values tell the answer
-pub told_once : (r r₂ : Fused) → told_fused r ≡ told_fused r₂ → r ≡ r₂
+pub told_once : (r r₂ : Result Counts Refusal) → told_fused r ≡ told_fused r₂ → r ≡ r₂
 unfolding told_fused
-told_once (Refused n) (Refused m) e = cc
-told_once (Refused n) (Done k) e = absurd (let h : ◌≡◌ {A = ℕ} 0 1 = cc in omega arith)
-told_once (Done k) (Refused n) e = absurd (let h : ◌≡◌ {A = ℕ} 0 1 = cc in omega arith)
-told_once (Done k) (Done k₂) e = ap Done (counts k k₂ (cc) (cc) (cc) (cc) (cc))
+told_once (Err n) (Err m) e = ap {B = Result Counts Refusal} Err (number_once n m cc)
+told_once (Err n) (Ok k) e = absurd (let h : ◌≡◌ {A = ℕ} 0 1 = cc in omega arith)
+told_once (Ok k) (Err n) e = absurd (let h : ◌≡◌ {A = ℕ} 0 1 = cc in omega arith)
+told_once (Ok k) (Ok k₂) e = ap {B = Result Counts Refusal} Ok (counts k k₂ (cc) (cc) (cc) (cc) (cc))
   where
     counts : (a b : Counts) → a.gone ≡ b.gone → a.stranded ≡ b.stranded → a.committed ≡ b.committed → a.written ≡ b.written → a.kept ≡ b.kept → a ≡ b
     counts a b e₁ e₂ e₃ e₄ e₅ =
@@ -61,7 +61,7 @@ told_once (Done k) (Done k₂) e = ap Done (counts k k₂ (cc) (cc) (cc) (cc) (c
         ∙ ap (λ (n : ℕ). record { gone = b.gone; stranded = b.stranded; committed = b.committed; written = b.written; kept = n }) e₅
 
 -- all that fusing leaves over records
-pub record SameLeft (r r₂ : Fused) (new ands imuls bmuls zeros : List ℕ) (ds : List Definition) (flags new₂ ands₂ imuls₂ bmuls₂ zeros₂ : List ℕ) (ds₂ : List Definition) (flags₂ : List ℕ) : Type 0 where
+pub record SameLeft (r r₂ : Result Counts Refusal) (new ands imuls bmuls zeros : List ℕ) (ds : List Definition) (flags new₂ ands₂ imuls₂ bmuls₂ zeros₂ : List ℕ) (ds₂ : List Definition) (flags₂ : List ℕ) : Type 0 where
   pub answers : r ≡ r₂
   pub new_same : new ≡ new₂
   pub ands_same : ands ≡ ands₂
@@ -71,7 +71,7 @@ pub record SameLeft (r r₂ : Fused) (new ands imuls bmuls zeros : List ℕ) (ds
   pub defs_same : ds ≡ ds₂
   pub flags_same : flags ≡ flags₂
 
-module _ (slots : ℕ) (z : Sizes) (old new ands imuls bmuls zeros : List ℕ) (ds : List Definition) (flags : List ℕ) (r r₂ : Fused) where
+module _ (slots : ℕ) (z : Sizes) (old new ands imuls bmuls zeros : List ℕ) (ds : List Definition) (flags : List ℕ) (r r₂ : Result Counts Refusal) where
   abbrev given : Lent
   given = lent_by old new ands imuls bmuls zeros ds flags
 
@@ -105,17 +105,17 @@ module _ (z : Sizes) (old new ands imuls bmuls zeros : List ℕ) (ds : List Defi
       → FillsIs z (stores_by old [] ands imuls bmuls zeros ds) flags ws ws₂ r₂ → (r₁ ≡ r₂) × (ws₁ ≡ ws₂)
   fill_records_once flags ws ws₁ ws₂ r₁ r₂ x y = fills_once z (stores_by old [] ands imuls bmuls zeros ds) flags ws ws₁ ws₂ r₁ r₂ x y
 
-  pub evaluate_records_once : (ws out : List ℕ) (r r₂ : Evaluated) (o o₂ : List ℕ) → EvaluateIs z (stores_by old new ands imuls bmuls zeros ds) ws out r o
+  pub evaluate_records_once : (ws out : List ℕ) (r r₂ : Result ℕ Refusal) (o o₂ : List ℕ) → EvaluateIs z (stores_by old new ands imuls bmuls zeros ds) ws out r o
       → EvaluateIs z (stores_by old new ands imuls bmuls zeros ds) ws out r₂ o₂ → (r ≡ r₂) × (o ≡ o₂)
   evaluate_records_once ws out r r₂ o o₂ x y = evaluate_once z (stores_by old new ands imuls bmuls zeros ds) ws out r r₂ o o₂ x y
 
-  pub write_records_once : (out : List ℕ) (r r₂ : Written) (o o₂ : List ℕ) → WriteIs z (stores_by old new ands imuls bmuls zeros ds) out r o
+  pub write_records_once : (out : List ℕ) (r r₂ : Result ℕ Refusal) (o o₂ : List ℕ) → WriteIs z (stores_by old new ands imuls bmuls zeros ds) out r o
       → WriteIs z (stores_by old new ands imuls bmuls zeros ds) out r₂ o₂ → (r ≡ r₂) × (o ≡ o₂)
   write_records_once out r r₂ o o₂ x y = write_once z (stores_by old new ands imuls bmuls zeros ds) out r r₂ o o₂ x y
 
 -- ---- reading
 -- all that reading leaves over records
-pub record SameRead (r r₂ : Read) (t a i b o : List ℕ) (d : List Definition) (t₂ a₂ i₂ b₂ o₂ : List ℕ) (d₂ : List Definition) : Type 0 where
+pub record SameRead (r r₂ : Result FileRead FileFault) (t a i b o : List ℕ) (d : List Definition) (t₂ a₂ i₂ b₂ o₂ : List ℕ) (d₂ : List Definition) : Type 0 where
   pub answers : r ≡ r₂
   pub terms_same : t ≡ t₂
   pub ands_same : a ≡ a₂
@@ -124,7 +124,7 @@ pub record SameRead (r r₂ : Read) (t a i b o : List ℕ) (d : List Definition)
   pub zeros_same : o ≡ o₂
   pub defs_same : d ≡ d₂
 
-module _ (s terms ands imuls bmuls zeros : List ℕ) (ds : List Definition) (r r₂ : Read) where
+module _ (s terms ands imuls bmuls zeros : List ℕ) (ds : List Definition) (r r₂ : Result FileRead FileFault) where
   pub read_records_once : (t a i b o : List ℕ) (d : List Definition) (t₂ a₂ i₂ b₂ o₂ : List ℕ) (d₂ : List Definition)
       → ReadIs s terms ands imuls bmuls zeros (dsts_of ds) (rhss_of ds) r t a i b o (dsts_of d) (rhss_of d)
       → ReadIs s terms ands imuls bmuls zeros (dsts_of ds) (rhss_of ds) r₂ t₂ a₂ i₂ b₂ o₂ (dsts_of d₂) (rhss_of d₂) → SameRead r r₂ t a i b o d t₂ a₂ i₂ b₂ o₂ d₂

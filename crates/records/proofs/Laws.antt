@@ -1,12 +1,12 @@
--- Records and their numbers, one after the other, and the counting of a loop that goes up. Assumes nothing.
+-- Records and their numbers, one after the other. Assumes nothing.
 use mathlib.Core.Path.{◌≡◌, refl, sym, ap, ◌∙◌}
 use mathlib.Core.Logic.{◌⊎◌, inl, inr, ⊎_elim}
-use Prim.Native.Nat.{ℕ, zero, suc, zero-le, suc-le-suc, ◌+◌, ◌-◌, ◌*◌, ◌≤◌, ◌<◌, ◌^◌}
+use Prim.Native.Nat.{ℕ, zero, suc, zero-le, suc-le-suc, ◌+◌, ◌≤◌, ◌<◌}
 use native.Mathlib.Omega.{arith}
 use native.Mathlib.Numerals.{add-one}
 use mathlib.Core.List.{List, [], ◌∷◌, ◌++◌}
 use lib.ListN.{length, get_or, set, take}
-use lib.Seq.{sets, length-sets, take-suc, length-take-le}
+use lib.Seq.{sets, take-suc, length-take-le}
 use Rattle.records.specs.Records.{unloaded, made, reloaded}
 use Rattle.records.specs.declared.Definition.{Definition}
 
@@ -19,9 +19,6 @@ sets_next A l n m (x ∷ xs) ys e = sets_next A (set l n x) (suc n) m xs ys (ome
 
 -- ---- the first k numbers are there, and one more
 module _ (l ns : List ℕ) where
-  pub front_length : (k : ℕ) → length (unloaded l ns k) ≡ length l
-  front_length k = length-sets l 0 (take k ns)
-
   pub front_more : (k k' v : ℕ) → k < length ns → get_or ns k 0 ≡ v → k' ≡ k + 1 → set (unloaded l ns k) k v ≡ unloaded l ns k'
   front_more k k' v h e n =
       ap (set (unloaded l ns k) k) (sym e) ∙ sets_next ℕ l 0 k (take k ns) (get_or ns k 0 ∷ []) (omega (arith, length-take-le k ns (omega (arith, h))))
@@ -29,9 +26,6 @@ module _ (l ns : List ℕ) where
 
 -- ---- the first k records are made, and one more
 module _ (l : List Definition) (ds rs : List ℕ) where
-  pub back-length : (k : ℕ) → length (reloaded l ds rs k) ≡ length l
-  back-length k = length-sets l 0 (made (take k ds) (take k rs))
-
   pub back_none : reloaded l ds rs 0 ≡ l
   unfolding made
   back_none = refl
@@ -58,33 +52,8 @@ back_more l ds rs k k' p q n =
     sets_next Definition l 0 k (made (take k ds) (take k rs)) (nth ds rs k ∷ []) (omega (arith, made-length ds rs k (omega (arith, p)) (omega (arith, q))))
     ∙ ap (sets l 0) (sym (made-suc ds rs k p q) ∙ ap (λ (i : ℕ). made (take i ds) (take i rs)) (sym (add-one k) ∙ sym n))
 
--- ---- a loop with n turns, of which t are left
+-- ---- numbers
 pub lt_or_le : (m n : ℕ) → (m < n) ⊎ (n ≤ m)
 lt_or_le m zero = inr zero-le
 lt_or_le zero (suc n) = inl (suc-le-suc zero-le)
 lt_or_le (suc m) (suc n) = ⊎_elim (λ p. inl (suc-le-suc p)) (λ p. inr (suc-le-suc p)) (lt_or_le m n)
-
-pub start : (n : ℕ) → 0 ≡ n - n
-start n = omega arith
-
-pub next : (n t : ℕ) → n - t < n → n - (n - (n - t + 1)) ≡ n - t + 1
-next n t more = omega arith
-
-pub all : (n t : ℕ) → n ≤ n - t → n - t ≡ n
-all n t over = omega arith
-
-pub below : (k n m l : ℕ) → k < n → n ≤ m → l ≡ m → k < l
-below k n m l p q e = omega arith
-
--- an element of s bytes, s at most 16, lies below 2 to the 64
-pub times2 : (k n m : ℕ) → k < n → n ≤ m → m * 2 < 2 ^ 63 → k * 2 < 2 ^ 64
-times2 k n m p q r = omega arith
-
-pub times8 : (k n m : ℕ) → k < n → n ≤ m → m * 8 < 2 ^ 63 → k * 8 < 2 ^ 64
-times8 k n m p q r = omega arith
-
-pub times16 : (k n m : ℕ) → k < n → n ≤ m → m * 16 < 2 ^ 63 → k * 16 < 2 ^ 64
-times16 k n m p q r = omega arith
-
-pub up : (k n : ℕ) → k < n → n < 2 ^ 64 → k + 1 < 2 ^ 64
-up k n p q = omega arith

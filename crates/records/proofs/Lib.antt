@@ -1,11 +1,12 @@
 -- Modules that belong to no one function.
 pub mod Laws
+pub mod Crowds
 pub mod Parts
-pub mod Spans
-pub mod Agree
-pub mod Past
-pub mod Wholes
 pub mod Unloaded
+pub mod Wholes
 pub mod Readings
 pub mod Writings
+pub mod Agree
+pub mod First
 pub mod Once
+pub mod Alls

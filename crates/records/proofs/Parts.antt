@@ -1,19 +1,16 @@
 -- The first numbers of a longer slice are the records' numbers, and records made of numbers have those. Assumes nothing.
-use mathlib.Core.Path.{◌≡◌, refl, sym, ap, subst, ◌∙◌}
-use Prim.Native.Nat.{ℕ, zero, suc, ◌+◌, ◌-◌, ◌≤◌}
-use native.Mathlib.Nat.{sub-zero}
+use mathlib.Core.Path.{◌≡◌, refl, sym, ap, ap₂, ◌∙◌}
+use Prim.Native.Nat.{ℕ, zero, suc, ◌+◌, ◌≤◌}
 use mathlib.Core.List.{List, [], ◌∷◌, ◌++◌, map}
 use native.Mathlib.Omega.{arith}
-use lib.ListN.{length, take, drop, set}
-use lib.Seq.{sets, sets-eq, take_all, take-take, take-append_seam, length-take-le, drop_at}
-use Rattle.word.specs.Answers.{Told}
-use Rattle.lower.specs.declared.Sizes.{Sizes}
-use Rattle.lower.specs.Stores.{stores}
-use Rattle.fusion.specs.Left.{lent}
-use Rattle.fusion.specs.Answer.{Fuses}
-use Rattle.fill_back.specs.Filling.{FillsIs}
-use Rattle.records.specs.Records.{dsts_of, rhss_of, unloaded, made, reloaded, RestKept}
+use lib.ListN.{length, take, drop, set, length-map}
+use lib.Seq.{sets, sets-eq, take_all, take-take, take-append_seam, length-take-le}
+use Rattle.records.specs.Records.{dsts_of, rhss_of, unloaded, made, reloaded}
 use Rattle.records.specs.declared.Definition.{Definition}
+
+-- as many right sides as destinations
+pub same_length : (ys : List Definition) → length (rhss_of ys) ≡ length (dsts_of ys)
+same_length ys = length-map ys (λ (d : Definition). d.rhs) ∙ sym (length-map ys (λ (d : Definition). d.dst))
 
 -- all of ns stands in front
 front_all : (l ns : List ℕ) (n : ℕ) → length ns ≡ n → n ≤ length l → take n (unloaded l ns n) ≡ ns
@@ -28,33 +25,6 @@ front_all l ns n e h =
 pub front_some : (l ns : List ℕ) (n : ℕ) → n ≤ length ns → n ≤ length l → take n (unloaded l ns n) ≡ take n ns
 front_some l ns n k h =
     ap (λ (vs : List ℕ). take n (sets l 0 vs)) (sym (take-take n n ns (omega arith))) ∙ front_all l (take n ns) n (length-take-le n ns k) h
-
--- a part from 0 on
-module _ (z : Sizes) (old ands imuls bmuls zeros dsts rhss flags ws ws' : List ℕ) (r : ℕ) where
-  pub fills_part : (n : ℕ) → FillsIs z (stores old [] ands imuls bmuls zeros (take (n - 0) (drop 0 dsts)) (take (n - 0) (drop 0 rhss))) flags ws ws' r
-      → FillsIs z (stores old [] ands imuls bmuls zeros (take n dsts) (take n rhss)) flags ws ws' r
-  fills_part n h = subst (λ (k : ℕ). FillsIs z (stores old [] ands imuls bmuls zeros (take k dsts) (take k rhss)) flags ws ws' r) (sub-zero n) h
-
--- a part from 0 on that comes back as ys: the front is ys, and the rest is as it was
-module _ (xs ys : List ℕ) (n : ℕ) (h : n ≤ length xs) (e : length ys ≡ length (take (n - 0) (drop 0 xs))) where
-  part_length : length ys ≡ n
-  part_length = e ∙ ap (λ (i : ℕ). length (take i xs)) (sub-zero n) ∙ length-take-le n xs h
-
-  pub back_front : ys ≡ take n (ys ++ drop (n - 0) (drop 0 xs))
-  back_front = sym (ap (λ (i : ℕ). take i (ys ++ drop (n - 0) xs)) (sym part_length) ∙ take-append_seam ys (drop (n - 0) xs))
-
-  pub back_rest : RestKept n xs (ys ++ drop (n - 0) (drop 0 xs))
-  back_rest = drop_at ys (drop (n - 0) xs) n part_length ∙ ap (λ (i : ℕ). drop i xs) (sub-zero n)
-
-module _ (slots : ℕ) (z : Sizes) (old new ands imuls bmuls zeros dsts rhss flags new' ands' imuls' bmuls' zeros' ds' rs' flags' : List ℕ) (t : Told) where
-  pub fuses_part : (n : ℕ) → n ≤ length dsts → n ≤ length rhss → length ds' ≡ length (take (n - 0) (drop 0 dsts)) → length rs' ≡ length (take (n - 0) (drop 0 rhss))
-      → Fuses slots z (lent old new ands imuls bmuls zeros (take (n - 0) (drop 0 dsts)) (take (n - 0) (drop 0 rhss)) flags) (lent old new' ands' imuls' bmuls' zeros' ds' rs' flags') t
-      → Fuses slots z (lent old new ands imuls bmuls zeros (take n dsts) (take n rhss) flags)
-      (lent old new' ands' imuls' bmuls' zeros' (take n (ds' ++ drop (n - 0) (drop 0 dsts))) (take n (rs' ++ drop (n - 0) (drop 0 rhss))) flags') t
-  fuses_part n h k d r f =
-      subst (λ (l : List ℕ). Fuses slots z (lent old new ands imuls bmuls zeros (take n dsts) (take n rhss) flags) (lent old new' ands' imuls' bmuls' zeros' (take n (ds' ++ drop (n - 0) (drop 0 dsts))) l flags') t) (back_front rhss rs' n k r)
-      (subst (λ (l : List ℕ). Fuses slots z (lent old new ands imuls bmuls zeros (take n dsts) (take n rhss) flags) (lent old new' ands' imuls' bmuls' zeros' l rs' flags') t) (back_front dsts ds' n h d)
-      (subst (λ (i : ℕ). Fuses slots z (lent old new ands imuls bmuls zeros (take i dsts) (take i rhss) flags) (lent old new' ands' imuls' bmuls' zeros' ds' rs' flags') t) (sub-zero n) f))
 
 -- ---- records made of numbers have those numbers
 module _ (f : Definition → ℕ) where
@@ -90,3 +60,24 @@ module _ (l : List Definition) (ds rs : List ℕ) (n : ℕ) (p : n ≤ length ds
   reloaded_rhss =
       map-sets (λ (d : Definition). d.rhs) l 0 (made (take n ds) (take n rs))
       ∙ ap (sets (rhss_of l) 0) (made_rhss (take n ds) (take n rs) (omega (arith, length-take-le n ds p, length-take-le n rs q)))
+
+-- the first numbers are changed, and the records are made of them
+module _ (l l' : List Definition) (n : ℕ) (xs ys us vs : List ℕ) (p : n ≤ length xs) (q : n ≤ length ys) (a : length us ≡ length (take n xs)) (b : length vs ≡ length (take n ys))
+    (e : l' ≡ reloaded l (take n (us ++ drop n xs)) (take n (vs ++ drop n ys)) (length (take n (us ++ drop n xs)))) where
+  us_long : length us ≡ n
+  us_long = a ∙ length-take-le n xs p
+
+  vs_long : length vs ≡ n
+  vs_long = b ∙ length-take-le n ys q
+
+  front : (ws rest : List ℕ) → length ws ≡ n → take n (ws ++ rest) ≡ ws
+  front ws rest h = ap (λ (i : ℕ). take i (ws ++ rest)) (sym h) ∙ take-append_seam ws rest
+
+  whole : l' ≡ reloaded l us vs n
+  whole = e ∙ ap₂ {C = List Definition} (λ (d r : List ℕ). reloaded l d r (length d)) (front us (drop n xs) us_long) (front vs (drop n ys) vs_long) ∙ ap (reloaded l us vs) us_long
+
+  pub put_dsts : dsts_of l' ≡ sets (dsts_of l) 0 us
+  put_dsts = ap dsts_of whole ∙ reloaded_dsts l us vs n (omega (arith, us_long)) (omega (arith, vs_long)) ∙ ap (sets (dsts_of l) 0) (take_all n us (omega (arith, us_long)))
+
+  pub put_rhss : rhss_of l' ≡ sets (rhss_of l) 0 vs
+  put_rhss = ap rhss_of whole ∙ reloaded_rhss l us vs n (omega (arith, us_long)) (omega (arith, vs_long)) ∙ ap (sets (rhss_of l) 0) (take_all n vs (omega (arith, vs_long)))

@@ -1,38 +1,39 @@
 -- What the calls of `decide` and `read` come to. Assumes nothing.
-use Rattle.std.proofs.Common.{◌≡◌, ℕ, ◌+◌, ◌-◌, ◌<◌, ◌≤◌, Bool, true, false, List, length, take, replicate, sym, ap, ◌∙◌, subst, take_all, eq-eqb, ne_eqb}
+use Rattle.std.proofs.Common.{◌≡◌, refl, ℕ, zero, suc, [], ◌∷◌, get_or, arith, ◌+◌, ◌-◌, ◌<◌, Bool, true, false, List, length, sym, ap, ◌∙◌, subst, eq-eqb, ne_eqb, eqb}
 use Rattle.lower.specs.declared.Sizes.{Sizes}
 use Rattle.lower.specs.Stores.{Stores}
-use Rattle.house_file.specs.declared.Read.{Read}
-use Rattle.house_file.specs.declared.Read.TheVariants.{Refused, Done}
-use Rattle.commit_set.specs.Answer.{SLOTS, ROOM, Decides}
+use Rattle.commit_set.specs.Answer.{SLOTS, ROOM}
 use Rattle.replay_decision.specs.declared.Tally.{Tally}
 use Rattle.replay_decision.specs.declared.Vector.{Vector}
-use Rattle.replay_decision.specs.Replay.{vector_at, part_of, UNTOUCHED, untouched_from, vector_counted, check_counted, wrong_slots, answered_right, Answers, AnswersIn, SlotsChecked, more, RoomChecked, both, FurtherChecked, judged, SystemReplayed, ReadReplayed, unread, read, VectorReplayed, Replayed, next}
+use Rattle.replaying.specs.Places.{part_of, untouched_from}
+use Rattle.replay_decision.specs.Replay.{vector_at, check_counted, wrong_slots, answered_right, AnswersIn, SlotsChecked, more, RoomChecked, both, VectorReplayed, Replayed, next}
 
 -- ---- one call of `decide`
 
-module _ (a e : ℕ) (l : List ℕ) where
-  pub another : (a ≡ e → ⊥) → false ≡ answered_right a e l
+module _ (a e : ℕ) (l : List ℕ) (b : Bool) where
+  pub another : eqb a e ≡ false → b ≡ false → b ≡ answered_right a e l
   unfolding answered_right
-  another h = rw (ne_eqb a e h)
+  another h k = rw (h, k)
 
-  pub accepted : a ≡ e → a ≡ 0 → true ≡ answered_right a e l
+  pub accepted : eqb a e ≡ true → a ≡ 0 → b ≡ true → b ≡ answered_right a e l
   unfolding answered_right
-  accepted h k = rw (eq-eqb a e h, eq-eqb a 0 k)
+  accepted h k q = rw (h, eq-eqb a 0 k, q)
 
-  pub kept : (b : Bool) → a ≡ e → (a ≡ 0 → ⊥) → b ≡ untouched_from l 0 → b ≡ answered_right a e l
+  pub kept : eqb a e ≡ true → (a ≡ 0 → ⊥) → b ≡ untouched_from l 0 → b ≡ answered_right a e l
   unfolding answered_right
-  kept b h k q = rw (eq-eqb a e h, ne_eqb a 0 k) q
-
-module _ (slots : ℕ) (z : Sizes) (s : Stores) (room expected : ℕ) (r : Bool) (l : List ℕ) where
-  -- more room than there is
-  pub in_all : length l ≤ room → Answers slots z s l expected r → Answers slots z s (take room l) expected r
-  in_all h x = subst (λ (m : List ℕ). Answers slots z s m expected r) (sym (take_all room l h)) x
-
-  pub in_part : (k : ℕ) → k ≡ room → Answers slots z s (take k l) expected r → Answers slots z s (take room l) expected r
-  in_part k h x = subst (λ (m : ℕ). Answers slots z s (take m l) expected r) h x
+  kept h k q = rw (h, ne_eqb a 0 k) q
 
 -- ---- further calls
+
+pub slots_are : (i : ℕ) → i < 7 → get_or (0 ∷ 3 ∷ 255 ∷ 256 ∷ 257 ∷ 4294967297 ∷ 18446744073709551615 ∷ []) i 0 ≡ wrong_slots i
+slots_are zero h = refl
+slots_are (suc zero) h = refl
+slots_are (suc (suc zero)) h = refl
+slots_are (suc (suc (suc zero))) h = refl
+slots_are (suc (suc (suc (suc zero)))) h = refl
+slots_are (suc (suc (suc (suc (suc zero))))) h = refl
+slots_are (suc (suc (suc (suc (suc (suc zero)))))) h = refl
+slots_are (suc (suc (suc (suc (suc (suc (suc i))))))) h = absurd (omega arith)
 
 module _ (z : Sizes) (s : Stores) (t : Tally) where
   pub slots_next : (i w : ℕ) (u v : Tally) (a : Bool) → SlotsChecked z s t i u → w ≡ wrong_slots i → AnswersIn w z s 1024 SLOTS a → v ≡ check_counted u a → SlotsChecked z s t (i + 1) v
@@ -42,17 +43,6 @@ module _ (z : Sizes) (s : Stores) (t : Tally) where
   rooms slots u v a b h x y p q = subst (RoomChecked slots z s t) (sym (q ∙ ap (λ (w : Tally). check_counted w b) p)) (both h x y)
 
 -- ---- one vector
-
-pub was_decided : (slots expected : ℕ) (flags : List ℕ) (z : Sizes) (s : Stores) (t r : Tally) (l : List ℕ) (a : ℕ) (u : Tally) → Decides slots z s (replicate 1024 UNTOUCHED) l a → u ≡ judged a expected l s.dsts z.linears flags z.wires t → FurtherChecked slots a z s u r → SystemReplayed slots expected flags z s t r
-was_decided slots expected flags z s t r l a u x p y =
-    record { left = l; answer = a; decides = x; further = subst (λ (v : Tally). FurtherChecked slots a z s v r) p y }
-
-module _ (slots expected : ℕ) (flags : List ℕ) (s : Stores) (t : Tally) (x : Read) (r : Tally) where
-  pub not_read : (number at : ℕ) → x ≡ Refused number at → r ≡ vector_counted t false 0 t.digest → ReadReplayed slots expected flags s t x r
-  not_read number at p q = rw (p, q) unread
-
-  pub was_read : (z : Sizes) (n : ℕ) → x ≡ Done z n → SystemReplayed slots expected flags z s t r → ReadReplayed slots expected flags s t x r
-  was_read z n p y = rw p (read y)
 
 pub vector_next : (b : List ℕ) (at : ℕ) (v : Vector) (t u : Tally) (file flags : List ℕ) → at < length b → v ≡ vector_at b at → Replayed b at t → file ≡ part_of b v.file v.answer → flags ≡ part_of b v.flags v.end → VectorReplayed file v.slots v.refusal flags t u → Replayed b v.end u
 vector_next b at v t u file flags h p x q r y =

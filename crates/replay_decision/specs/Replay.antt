@@ -1,10 +1,8 @@
 -- The replay of decisions: what the bytes of decision.bin come to.
 --
---   number_at b at       a number of four bytes, the low one first
 --   vector_at b at       the vector that begins at `at`: where its house file and its flags stand, its slots and its refusal
 --   turns f n s         n turns from s on, the i-th of them by f i
 --   flags_of             the flags of wires: 1 where the wire is the destination of a definition that commits
---   untouched_from l i   all places of l from i on have the number that stood there before the call
 --   judged              what was answered and left, against the vector, and in the digest
 --   Answers             whether one call of `decide` is answered as it has to be
 --   SlotsChecked, RoomChecked, FurtherChecked     the further calls on a system
@@ -15,21 +13,18 @@
 -- relations here names what was left.
 --
 -- Assumes nothing.
-use Rattle.std.specs.Prelude.{◌≡◌, ℕ, zero, suc, ◌+◌, ◌-◌, ◌*◌, ◌%◌, ◌^◌, ◌<◌, ◌≤◌, Bool, false, cond, ◌&&◌, ◌||◌, List, [], ◌∷◌, length, take, replicate, ◌==◌, ◌≢◌, nat_le, slice_index, slice_index_or, slice_range, slice_set}
+use Rattle.std.specs.Prelude.{◌≡◌, ℕ, zero, suc, ◌+◌, ◌-◌, ◌%◌, ◌^◌, ◌<◌, ◌≤◌, Bool, false, cond, ◌&&◌, ◌||◌, List, [], ◌∷◌, length, take, replicate, ◌==◌, ◌≢◌, slice_index, slice_index_or, slice_set, Result, Ok, Err}
 use Rattle.lower.specs.declared.Sizes.{Sizes}
 use Rattle.lower.specs.Stores.{Stores, stores}
-use Rattle.house_file.specs.Decoding.{u16_at}
-use Rattle.house_file.specs.declared.Read.{Read}
-use Rattle.house_file.specs.declared.Read.TheVariants.{Refused, Done}
+use Rattle.replaying.specs.Places.{number_at, part_of, mixed, UNTOUCHED, untouched_from}
+use Rattle.house_file.specs.declared.FileRead.{FileRead}
+use Rattle.house_file.specs.declared.FileFault.{FileFault}
 use Rattle.house_read.specs.Answer.{ReadIs}
 use Rattle.commit_set.specs.Answer.{SLOTS, ROOM, Decides}
 use Rattle.replay_decision.specs.declared.Tally.{Tally}
 use Rattle.replay_decision.specs.declared.Vector.{Vector}
 
 -- ---- the bytes
-
-abbrev pub number_at : List ℕ → ℕ → ℕ
-number_at b at = u16_at b at + 65536 * u16_at b (at + 2)
 
 abbrev pub answer_at : List ℕ → ℕ → ℕ
 answer_at b at = at + 4 + number_at b at
@@ -44,9 +39,6 @@ vector_at b at =
       flags = answer_at b at + 12;
       end = answer_at b at + 12 + number_at b (answer_at b at + 8);
     }
-
-abbrev pub part_of : List ℕ → ℕ → ℕ → List ℕ
-part_of l begin end = cond (nat_le begin end && nat_le end (length l)) (slice_range l begin end) []
 
 -- ---- counting
 
@@ -66,20 +58,11 @@ flags_of decisions dsts n l = turns (List ℕ) (λ i l. marked_by (slice_index d
 abbrev pub equal_places : List ℕ → List ℕ → ℕ → ℕ
 equal_places a b n = turns ℕ (λ i c. c + same_of (slice_index a i) (slice_index b i)) n 0
 
-abbrev pub count_from : List ℕ → ℕ → ℕ → ℕ → ℕ
-count_from l x from n = turns ℕ (λ i c. c + same_of (slice_index l (from + i)) x) n 0
-
-abbrev pub mixed : ℕ → ℕ → ℕ
-mixed digest x = (digest % 1000000007 * 31 + x % 1000000007) % 1000000007
+abbrev pub count_of : List ℕ → ℕ → ℕ → ℕ
+count_of l x n = turns ℕ (λ i c. c + same_of (slice_index l i) x) n 0
 
 abbrev pub digest_of : List ℕ → ℕ → ℕ → ℕ
 digest_of l n start = turns ℕ (λ i d. mixed d (slice_index l i)) n start
-
-abbrev pub UNTOUCHED : ℕ
-UNTOUCHED = 7
-
-abbrev pub untouched_from : List ℕ → ℕ → Bool
-untouched_from l from = nat_le from (length l) && count_from l UNTOUCHED from (length l - from) == length l - from
 
 abbrev pub vector_counted : Tally → Bool → ℕ → ℕ → Tally
 vector_counted t right committed digest =
@@ -114,7 +97,7 @@ decided_right expected left n flags met wires =
 
 unfoldable pub judged_flags : ℕ → List ℕ → ℕ → List ℕ → List ℕ → ℕ → Tally → Tally
 judged_flags expected left n flags met wires t =
-    vector_counted t (decided_right expected left n flags met wires) (count_from met 1 0 wires) (digest_of left n (digest_of met wires t.digest))
+    vector_counted t (decided_right expected left n flags met wires) (count_of met 1 wires) (digest_of left n (digest_of met wires t.digest))
 
 unfoldable pub judged : ℕ → ℕ → List ℕ → List ℕ → ℕ → List ℕ → ℕ → Tally → Tally
 judged answer expected left dsts n flags wires t =
@@ -164,11 +147,11 @@ pub record SystemReplayed (slots expected : ℕ) (flags : List ℕ) (z : Sizes) 
   pub further : FurtherChecked slots answer z s (judged answer expected left s.dsts z.linears flags z.wires t) r
 
 -- a house file that is not read is a wrong vector
-pub data ReadReplayed (slots expected : ℕ) (flags : List ℕ) (s : Stores) (t : Tally) : Read → Tally → Type 0 where
-  unread : {number at : ℕ} → ReadReplayed slots expected flags s t (Refused number at) (vector_counted t false 0 t.digest)
-  read : {z : Sizes} {terms : ℕ} {r : Tally}
-      → SystemReplayed slots expected flags z s t r
-      → ReadReplayed slots expected flags s t (Done z terms) r
+pub data ReadReplayed (slots expected : ℕ) (flags : List ℕ) (s : Stores) (t : Tally) : Result FileRead FileFault → Tally → Type 0 where
+  unread : {fault : FileFault} → ReadReplayed slots expected flags s t (Err fault) (vector_counted t false 0 t.digest)
+  read : {file : FileRead} {r : Tally}
+      → SystemReplayed slots expected flags file.sizes s t r
+      → ReadReplayed slots expected flags s t (Ok file) r
 
 pub record VectorReplayed (file : List ℕ) (slots expected : ℕ) (flags : List ℕ) (t r : Tally) : Type 0 where
   pub terms : List ℕ
@@ -178,7 +161,7 @@ pub record VectorReplayed (file : List ℕ) (slots expected : ℕ) (flags : List
   pub zeros : List ℕ
   pub dsts : List ℕ
   pub rhss : List ℕ
-  pub answer : Read
+  pub answer : Result FileRead FileFault
   pub reads : ReadIs file (replicate 8192 0) (replicate 3072 0) (replicate 4096 0) (replicate 6144 0) (replicate 1024 0) (replicate 1024 0)
       (replicate 1024 0) answer terms ands imuls bmuls zeros dsts rhss
   pub replays : ReadReplayed slots expected flags (stores terms [] ands imuls bmuls zeros dsts rhss) t answer r

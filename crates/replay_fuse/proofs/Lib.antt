@@ -1,3 +1,2 @@
 pub mod Turns
-pub mod Parts
-pub mod Calls
+pub mod Slots

@@ -10,28 +10,29 @@
 -- What `fuse` leaves is said by its contract, `Fuses`.
 --
 -- Assumes nothing.
-use Rattle.std.specs.Prelude.{ℕ, false, List, take, replicate}
+use Rattle.std.specs.Prelude.{ℕ, false, List, min, take, replicate, Result, Ok, Err}
 use Rattle.lower.specs.declared.Sizes.{Sizes}
 use Rattle.lower.specs.Stores.{Stores}
-use Rattle.house_file.specs.declared.Read.{Read}
-use Rattle.house_file.specs.declared.Read.TheVariants.{Refused, Done}
-use Rattle.fusion.specs.declared.Fused.{Fused}
+use Rattle.refusal.specs.declared.Refusal.{Refusal}
+use Rattle.house_file.specs.declared.FileRead.{FileRead}
+use Rattle.house_file.specs.declared.FileFault.{FileFault}
+use Rattle.fusion.specs.declared.Counts.{Counts}
 use Rattle.fusion.specs.Left.{Lent, lent}
 use Rattle.fusion.specs.Answer.{told_fused, Fuses}
 use Rattle.replay_fuse.specs.declared.judge.Told.{Told}
 use Rattle.replay_fuse.specs.declared.judge.Seen.{Seen}
-use Rattle.replay_fuse.specs.Places.{least_of, UNTOUCHED}
+use Rattle.replaying.specs.Places.{UNTOUCHED}
 use Rattle.replay_fuse.specs.Judged.{ReadIn, refusal_seen, Judged}
 
 pub record FusedIn (slots : ℕ) (z : Sizes) (file : List ℕ) (told : Told) (result : List ℕ) (digest : ℕ) (l l' : Lent) (r : Seen) : Type 0 where
-  pub answer : Fused
+  pub answer : Result Counts Refusal
   pub fuses : Fuses slots z l l' (told_fused answer)
   pub judged : Judged file told l' z result digest answer r
 
 abbrev pub lent_in : ℕ → ℕ → Stores → Lent
 lent_in room wires s =
-    lent s.old (take (least_of room 16384) (replicate 16384 UNTOUCHED)) s.ands s.imuls s.bmuls s.zeros s.dsts s.rhss
-    (take (least_of wires 4096) (replicate 4096 UNTOUCHED))
+    lent s.old (take (min room 16384) (replicate 16384 UNTOUCHED)) s.ands s.imuls s.bmuls s.zeros s.dsts s.rhss
+    (take (min wires 4096) (replicate 4096 UNTOUCHED))
 
 abbrev pub lent_with : List ℕ → List ℕ → Stores → Lent
 lent_with new flags s = lent s.old new s.ands s.imuls s.bmuls s.zeros s.dsts s.rhss flags
@@ -42,13 +43,13 @@ module _ (slots room wires : ℕ) (file : List ℕ) (told : Told) (result : List
     pub flags : List ℕ
     pub fused : FusedIn slots z file told result digest (lent_in room wires s) (lent_with new flags s') r
 
-  pub data FromRead (s : Stores) : Stores → Read → Seen → Type 0 where
-    unread : {number at : ℕ} → FromRead s s (Refused number at) (refusal_seen false digest)
-    read : {s' : Stores} {z : Sizes} {terms : ℕ} {r : Seen} → InRoom z s s' r → FromRead s s' (Done z terms) r
+  pub data FromRead (s : Stores) : Stores → Result FileRead FileFault → Seen → Type 0 where
+    unread : {why : FileFault} → FromRead s s (Err why) (refusal_seen false digest)
+    read : {s' : Stores} {f : FileRead} {r : Seen} → InRoom f.sizes s s' r → FromRead s s' (Ok f) r
 
 pub record Attempt (file : List ℕ) (slots room wires : ℕ) (told : Told) (result : List ℕ) (digest : ℕ) (r : Seen) : Type 0 where
   pub before : Stores
   pub after : Stores
-  pub answer : Read
+  pub answer : Result FileRead FileFault
   pub reads : ReadIn file answer before
   pub goes : FromRead slots room wires file told result digest before after answer r

@@ -9,10 +9,9 @@
 --   FurtherChecked      slots always; the stores where no refusal is told
 --
 -- Assumes nothing.
-use Rattle.std.specs.Prelude.{◌≡◌, ℕ, ◌+◌, ◌-◌, ◌<◌, false, List, [], ◌∷◌, ◌≢◌, slice_index_or}
-use Rattle.house_file.specs.Reading.{read_of}
-use Rattle.house_file.specs.declared.Read.{Read}
-use Rattle.house_file.specs.declared.Read.TheVariants.{Refused, Done}
+use Rattle.std.specs.Prelude.{◌≡◌, ℕ, ◌+◌, ◌-◌, ◌<◌, false, List, [], ◌∷◌, ◌≢◌, slice_index_or, Result, Ok, Err}
+use Rattle.house_file.specs.Reading.{Fault, read_of}
+use Rattle.house_file.specs.declared.FileRead.{FileRead}
 use Rattle.commit_set.specs.Answer.{SLOTS, ROOM}
 use Rattle.replay_fuse.specs.declared.judge.Told.{Told}
 use Rattle.replay_fuse.specs.declared.judge.Seen.{Seen}
@@ -26,9 +25,9 @@ wrong_slots i = slice_index_or (0 ∷ 3 ∷ 4294967297 ∷ []) i 1099511627776
 abbrev pub refusal_told : ℕ → Told
 refusal_told n = record { refusal = n; gone = 0; stranded = 0; committed = 0; written = 0; kept = 0 }
 
-abbrev pub wires_in : Read → ℕ
-wires_in (Refused number at) = 0
-wires_in (Done z terms) = z.wires
+abbrev pub wires_in : Result FileRead Fault → ℕ
+wires_in (Err _) = 0
+wires_in (Ok f) = f.sizes.wires
 
 pub data SlotsChecked (file : List ℕ) (room : ℕ) (t : Tally) : ℕ → Tally → Type 0 where
   none : SlotsChecked file room t 0 t

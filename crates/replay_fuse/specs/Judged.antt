@@ -1,5 +1,6 @@
 -- What one call of `fuse` answered and left, against what was told.
 --
+--   lent_by s flags      the stores of a system that is lent, and the flags
 --   rows_of n            n, or the limit of rows and definitions where n is more
 --   sizes_after z k      the sizes of the patched system
 --   starts_after z k     from which place on each store has to be as it was, where the system is patched; no_starts, where it is refused
@@ -13,29 +14,33 @@
 -- What `read` leaves is said by `ReadIs`, and what `write` leaves by `WriteIs`: each of the relations here names what was left.
 --
 -- Assumes nothing.
-use Rattle.std.specs.Prelude.{◌≡◌, ℕ, ◌+◌, ◌-◌, ◌*◌, Bool, true, false, ◌&&◌, List, length, replicate, ◌==◌, nat_le}
+use Rattle.std.specs.Prelude.{◌≡◌, ℕ, ◌+◌, ◌-◌, ◌*◌, Bool, false, ◌&&◌, List, length, take, replicate, ◌==◌, min, nat_le, Result, Ok, Err}
 use Rattle.lower.specs.declared.Sizes.{Sizes}
+use Rattle.lower.specs.declared.LentSystem.{LentSystem}
 use Rattle.lower.specs.Stores.{Stores}
-use Rattle.house_file.specs.declared.Read.{Read}
+use Rattle.refusal.specs.declared.Refusal.{Refusal}
+use Rattle.refusal.specs.Refusals.{number_of}
+use Rattle.house_file.specs.declared.FileRead.{FileRead}
+use Rattle.house_file.specs.declared.FileFault.{FileFault}
 use Rattle.house_read.specs.Answer.{ReadIs}
 use Rattle.house_write.specs.Write.{WriteIs}
-use Rattle.house_write.specs.declared.Written.{Written}
-use Rattle.house_write.specs.declared.Written.TheVariants as W
 use Rattle.fusion.specs.declared.Counts.{Counts}
-use Rattle.fusion.specs.declared.Fused.{Fused}
-use Rattle.fusion.specs.declared.Fused.TheVariants as F
-use Rattle.fusion.specs.Left.{Lent, output}
+use Rattle.fusion.specs.Left.{Lent, lent, output}
 use Rattle.replay_fuse.specs.declared.judge.Told.{Told}
 use Rattle.replay_fuse.specs.declared.judge.Seen.{Seen}
 use Rattle.replay_fuse.specs.declared.judge.Starts.{Starts}
 use Rattle.replay_fuse.specs.declared.judge.Bytes.{Bytes}
-use Rattle.replay_fuse.specs.Places.{least_of, part_of, same_from, count_from, untouched_from, named_from, digest_of, UNTOUCHED}
+use Rattle.replaying.specs.Places.{part_of, counted, untouched_from, same_from, digest_of, UNTOUCHED}
+use Rattle.replay_fuse.specs.Places.{named_from}
+
+abbrev pub lent_by : LentSystem → List ℕ → Lent
+lent_by s flags = lent s.stores.old.now s.stores.new.now s.ands.now s.imuls.now s.bmuls.now s.zeros.now s.dsts.now s.rhss.now flags
 
 abbrev pub no_starts : Starts
 no_starts = record { new = 0; ands = 0; imuls = 0; bmuls = 0; zeros = 0; linears = 0; flags = 0 }
 
 abbrev pub rows_of : ℕ → ℕ
-rows_of n = least_of n 1024
+rows_of n = min n 1024
 
 abbrev pub linears_after : Counts → ℕ
 linears_after k = rows_of k.stranded + rows_of k.committed
@@ -68,8 +73,8 @@ counts_right k told =
 unfoldable pub flags_right : List ℕ → ℕ → List ℕ → Counts → Bool
 flags_right flags wires dsts k =
     nat_le wires (length flags)
-    && (count_from flags 1 0 wires == k.committed
-    && (count_from flags 0 0 wires == wires - count_from flags 1 0 wires
+    && (counted 1 (take wires flags) == k.committed
+    && (counted 0 (take wires flags) == wires - counted 1 (take wires flags)
     && named_from flags dsts (rows_of k.stranded) (rows_of k.committed) == k.committed))
 
 abbrev pub told_right : Counts → Told → List ℕ → ℕ → List ℕ → Bool
@@ -77,51 +82,45 @@ told_right k told flags wires dsts = counts_right k told && flags_right flags wi
 
 -- ---- what has to be as it was
 
-abbrev pub all_of : Bool → Bool → Bool → Bool → Bool
-all_of a b c d = a && (b && (c && d))
+-- s after, s₀ before
+abbrev pub rows_kept : Stores → Stores → Starts → Bool
+rows_kept s s₀ from =
+    same_from s.ands s₀.ands from.ands
+    && (same_from s.imuls s₀.imuls from.imuls
+    && (same_from s.bmuls s₀.bmuls from.bmuls && same_from s.zeros s₀.zeros from.zeros))
 
-abbrev pub rows_kept : List ℕ → List ℕ → List ℕ → List ℕ → List ℕ → List ℕ → List ℕ → List ℕ → Starts → Bool
-rows_kept ands imuls bmuls zeros ands₀ imuls₀ bmuls₀ zeros₀ from =
-    all_of (same_from ands ands₀ from.ands) (same_from imuls imuls₀ from.imuls) (same_from bmuls bmuls₀ from.bmuls)
-    (same_from zeros zeros₀ from.zeros)
-
-abbrev pub lists_kept : List ℕ → List ℕ → List ℕ → List ℕ → List ℕ → List ℕ → Starts → Bool
-lists_kept old dsts rhss old₀ dsts₀ rhss₀ from =
-    all_of (same_from old old₀ 0) (same_from dsts dsts₀ from.linears) (same_from rhss rhss₀ from.linears) true
+abbrev pub lists_kept : Stores → Stores → Starts → Bool
+lists_kept s s₀ from = same_from s.old s₀.old 0 && (same_from s.dsts s₀.dsts from.linears && same_from s.rhss s₀.rhss from.linears)
 
 abbrev pub made_kept : List ℕ → List ℕ → Starts → Bool
 made_kept new flags from = untouched_from new from.new && untouched_from flags from.flags
 
 unfoldable pub kept_of : Lent → Stores → Starts → Bool
-kept_of l s from =
-    all_of (rows_kept l.ands l.imuls l.bmuls l.zeros s.ands s.imuls s.bmuls s.zeros from)
-    (lists_kept l.old l.dsts l.rhss s.old s.dsts s.rhss from)
-    (made_kept l.new l.flags from)
-    true
+kept_of l s from = rows_kept (output l) s from && (lists_kept (output l) s from && made_kept l.new l.flags from)
 
-abbrev pub ReadIn : List ℕ → Read → Stores → Type 0
+abbrev pub ReadIn : List ℕ → Result FileRead FileFault → Stores → Type 0
 ReadIn file answer s =
     ReadIs file (replicate 8192 UNTOUCHED) (replicate 3072 UNTOUCHED) (replicate 4096 UNTOUCHED) (replicate 6144 UNTOUCHED) (replicate 1024 UNTOUCHED)
     (replicate 1024 UNTOUCHED) (replicate 1024 UNTOUCHED) answer s.old s.ands s.imuls s.bmuls s.zeros s.dsts s.rhss
 
 pub record Kept (file : List ℕ) (l : Lent) (from : Starts) (r : Bool) : Type 0 where
   pub before : Stores
-  pub answer : Read
+  pub answer : Result FileRead FileFault
   pub reads : ReadIn file answer before
   pub right : r ≡ kept_of l before from
 
 -- ---- the file written
 
 abbrev pub file_seen : List ℕ → List ℕ → ℕ → Bytes
-file_seen file result digest = record { right = same_from file result 0; digest = digest_of file (length file) digest }
+file_seen file result digest = record { right = same_from file result 0; digest = digest_of file digest }
 
-abbrev pub bytes_seen : Written → List ℕ → List ℕ → ℕ → Bytes
-bytes_seen (W.Done n) out result digest = file_seen (part_of out 0 n) result digest
-bytes_seen (W.Refused number) out result digest = record { right = false; digest = digest }
+abbrev pub bytes_seen : Result ℕ Refusal → List ℕ → List ℕ → ℕ → Bytes
+bytes_seen (Ok n) out result digest = file_seen (part_of out 0 n) result digest
+bytes_seen (Err _) out result digest = record { right = false; digest = digest }
 
 pub record Wrote (z : Sizes) (s : Stores) (result : List ℕ) (digest : ℕ) (r : Bytes) : Type 0 where
   pub out : List ℕ
-  pub answer : Written
+  pub answer : Result ℕ Refusal
   pub writes : WriteIs z s (replicate 65536 0) answer out
   pub seen : r ≡ bytes_seen answer out result digest
 
@@ -133,7 +132,7 @@ refusal_seen right digest = record { right = right; gone = 0; stranded = 0; comm
 abbrev pub done_seen : Counts → Bool → Bool → Bytes → Seen
 done_seen k told kept bytes =
     record {
-      right = all_of told kept bytes.right true;
+      right = told && (kept && bytes.right);
       gone = k.gone;
       stranded = k.stranded;
       committed = k.committed;
@@ -153,6 +152,6 @@ pub record DoneJudged (file : List ℕ) (told : Told) (l : Lent) (z : Sizes) (re
   pub wrote : Wrote (sizes_after z k) (output l) result digest bytes
   pub seen : r ≡ done_seen k (told_right k told l.flags z.wires l.dsts) same bytes
 
-pub data Judged (file : List ℕ) (told : Told) (l : Lent) (z : Sizes) (result : List ℕ) (digest : ℕ) : Fused → Seen → Type 0 where
-  refusal : {number : ℕ} {r : Seen} → RefusalJudged file told l digest number r → Judged file told l z result digest (F.Refused number) r
-  done : {k : Counts} {r : Seen} → DoneJudged file told l z result digest k r → Judged file told l z result digest (F.Done k) r
+pub data Judged (file : List ℕ) (told : Told) (l : Lent) (z : Sizes) (result : List ℕ) (digest : ℕ) : Result Counts Refusal → Seen → Type 0 where
+  refusal : {why : Refusal} {r : Seen} → RefusalJudged file told l digest (number_of why) r → Judged file told l z result digest (Err why) r
+  done : {k : Counts} {r : Seen} → DoneJudged file told l z result digest k r → Judged file told l z result digest (Ok k) r

@@ -1,23 +1,10 @@
--- Stores, place by place.
+-- The flags at destinations, place by place.
 --
---   least_of a b         the smaller of the two
---   part_of l b e        the places from b on and before e; none where they are not all there
 --   turns f n s         n turns from s on, the i-th of them by f i
---   same_places          how many of n places from one on are the same in both lists
---   same_from a b i      the two are as long, and the same from i on
---   count_from           how many of n places from one on have a number
---   untouched_from l i   all places of l from i on have the number that stood there before the call
 --   named_from           how many of n destinations from one on have the flag 1
---   mixed, digest_of     the digest of numbers
 --
 -- Assumes nothing.
-use Rattle.std.specs.Prelude.{ℕ, zero, suc, ◌+◌, ◌-◌, ◌*◌, ◌%◌, Bool, cond, ◌&&◌, List, [], length, ◌==◌, nat_le, slice_index, slice_range}
-
-abbrev pub least_of : ℕ → ℕ → ℕ
-least_of a b = cond (nat_le b a) b a
-
-abbrev pub part_of : List ℕ → ℕ → ℕ → List ℕ
-part_of l begin end = cond (nat_le begin end && nat_le end (length l)) (slice_range l begin end) []
+use Rattle.std.specs.Prelude.{ℕ, zero, suc, ◌+◌, cond, List, ◌==◌, slice_index}
 
 unfoldable pub turns : (A : Type 0) → (ℕ → A → A) → ℕ → A → A
 turns A f zero s = s
@@ -26,26 +13,5 @@ turns A f (suc n) s = f n (turns A f n s)
 abbrev pub same_of : ℕ → ℕ → ℕ
 same_of a b = cond (a == b) 1 0
 
-abbrev pub same_places : List ℕ → List ℕ → ℕ → ℕ → ℕ
-same_places a b from n = turns ℕ (λ i c. c + same_of (slice_index a (from + i)) (slice_index b (from + i))) n 0
-
-unfoldable pub same_from : List ℕ → List ℕ → ℕ → Bool
-same_from a b from = length a == length b && (nat_le from (length a) && same_places a b from (length a - from) == length a - from)
-
-abbrev pub count_from : List ℕ → ℕ → ℕ → ℕ → ℕ
-count_from l x from n = turns ℕ (λ i c. c + same_of (slice_index l (from + i)) x) n 0
-
-abbrev pub UNTOUCHED : ℕ
-UNTOUCHED = 7
-
-unfoldable pub untouched_from : List ℕ → ℕ → Bool
-untouched_from l from = nat_le from (length l) && count_from l UNTOUCHED from (length l - from) == length l - from
-
 abbrev pub named_from : List ℕ → List ℕ → ℕ → ℕ → ℕ
 named_from flags dsts from n = turns ℕ (λ i c. c + same_of (slice_index flags (slice_index dsts (from + i))) 1) n 0
-
-abbrev pub mixed : ℕ → ℕ → ℕ
-mixed digest x = (digest % 1000000007 * 31 + x % 1000000007) % 1000000007
-
-abbrev pub digest_of : List ℕ → ℕ → ℕ → ℕ
-digest_of l n start = turns ℕ (λ i d. mixed d (slice_index l i)) n start

@@ -1,27 +1,22 @@
 -- The replay of fusing: what the bytes of fuse.bin come to.
 --
---   number_at b at       a number of four bytes, the low one first
 --   vector_at b at       the vector that begins at `at`: where its house file and its result stand, its slots and its room
 --   told_at b at to      what it tells: the refusal behind the slots and the room at `at`, the counts from `to` on
 --   VectorReplayed      one vector: the call that it asks for, and the further ones
 --   Replayed b at t     t is counted of the vectors before `at`
 --
 -- Assumes nothing.
-use Rattle.std.specs.Prelude.{◌≡◌, ℕ, ◌+◌, ◌*◌, ◌<◌, ◌≤◌, List, length}
-use Rattle.house_file.specs.Decoding.{u16_at}
+use Rattle.std.specs.Prelude.{◌≡◌, ℕ, ◌+◌, ◌<◌, ◌≤◌, List, length}
+use Rattle.replaying.specs.Places.{number_at, part_of}
 use Rattle.replay_fuse.specs.declared.Vector.{Vector}
 use Rattle.replay_fuse.specs.declared.judge.Told.{Told}
 use Rattle.replay_fuse.specs.declared.judge.Seen.{Seen}
 use Rattle.replay_fuse.specs.declared.tally.Tally.{Tally}
-use Rattle.replay_fuse.specs.Places.{part_of}
 use Rattle.replay_fuse.specs.Attempts.{Attempt}
 use Rattle.replay_fuse.specs.Tallies.{nothing_counted, vector_counted}
 use Rattle.replay_fuse.specs.Further.{FurtherChecked}
 
 -- ---- the bytes
-
-abbrev pub number_at : List ℕ → ℕ → ℕ
-number_at b at = u16_at b at + 65536 * u16_at b (at + 2)
 
 abbrev pub answer_at : List ℕ → ℕ → ℕ
 answer_at b at = at + 4 + number_at b at

@@ -2,18 +2,21 @@
 ghost use Rattle.std.specs.Prelude.{◌≡◌, []};
 ghost use Rattle.lower.specs.Stores.{stores};
 ghost use Rattle.fusion.specs.Left.{lent};
-ghost use Rattle.replay_fuse.specs.Attempts.{FusedIn, InRoom, FromRead, Attempt};
+ghost use Rattle.replay_fuse.specs.Attempts.{FusedIn, InRoom, Attempt};
 
-use crate::judge::{Seen, Told};
-use crate::{judge, places};
-use house_file::Read;
-use lower::Sizes;
+use crate::judge;
+use crate::judge::{Case, Seen};
+use lower::{LentSystem, Sizes};
+use operand::TermStores;
+use replaying::UNTOUCHED;
 
 // How many terms a result store has at most.
-pub const MAX_ROOM: usize = 16384;
+const MAX_ROOM: usize = 16384;
 
+// What fusing answers and leaves, judged.
+// Kept: nine lists, since a struct of them that lends them to be written would want a ghost name for each in every contract.
 fn fused_in(
-    file: &[u8],
+    case: &Case<'_>,
     old: &[u64],
     new: &mut [u64],
     ands: &mut [u64],
@@ -24,12 +27,8 @@ fn fused_in(
     rhss: &mut [u64],
     flags: &mut [u8],
     z: Sizes,
-    slots: u64,
-    told: Told,
-    res: &[u8],
-    digest: u64,
 ) -> Seen
-    ensures { FusedIn slots z file.now told res.now digest (lent old.now new.old ands.old imuls.old bmuls.old zeros.old dsts.old rhss.old flags.old) (lent old.now new.new ands.new imuls.new bmuls.new zeros.new dsts.new rhss.new flags.new) result }
+    ensures { FusedIn case.now.slots z case.now.file.now case.now.told case.now.patched.now case.now.digest (lent old.now new.old ands.old imuls.old bmuls.old zeros.old dsts.old rhss.old flags.old) (lent old.now new.new ands.new imuls.new bmuls.new zeros.new dsts.new rhss.new flags.new) result }
 {
     let answer = fusion::fuse(
         old,
@@ -42,17 +41,25 @@ fn fused_in(
         &mut *rhss,
         &mut *flags,
         z,
-        slots,
+        case.slots,
     );
-    judge::judge(
-        answer, told, file, old, &*new, &*ands, &*imuls, &*bmuls, &*zeros, &*dsts, &*rhss, &*flags,
-        z, res, digest,
-    )
+    let system = LentSystem {
+        stores: TermStores { old, new: &*new },
+        ands: &*ands,
+        imuls: &*imuls,
+        bmuls: &*bmuls,
+        zeros: &*zeros,
+        dsts: &*dsts,
+        rhss: &*rhss,
+        sizes: z,
+    };
+    judge::judge(answer, case, &system, &*flags)
 }
 
 // With a result store of so many terms, and so many flags.
+// Kept: the lists, as above.
 fn in_room(
-    file: &[u8],
+    case: &Case<'_>,
     old: &[u64],
     ands: &mut [u64],
     imuls: &mut [u64],
@@ -61,91 +68,47 @@ fn in_room(
     dsts: &mut [u16],
     rhss: &mut [u64],
     z: Sizes,
-    slots: u64,
-    room: usize,
-    wires: usize,
-    told: Told,
-    res: &[u8],
-    digest: u64,
 ) -> Seen
-    ensures { InRoom slots room wires file.now told res.now digest z (stores old.now [] ands.old imuls.old bmuls.old zeros.old dsts.old rhss.old) (stores old.now [] ands.new imuls.new bmuls.new zeros.new dsts.new rhss.new) result }
+    ensures { InRoom case.now.slots case.now.room case.now.wires case.now.file.now case.now.told case.now.patched.now case.now.digest z (stores old.now [] ands.old imuls.old bmuls.old zeros.old dsts.old rhss.old) (stores old.now [] ands.new imuls.new bmuls.new zeros.new dsts.new rhss.new) result }
 {
-    let n = places::least(room, MAX_ROOM);
-    let m = places::least(wires, lower::MAX_WIRES);
-    let mut new = [places::UNTOUCHED; MAX_ROOM];
+    let n = case.room.min(MAX_ROOM);
+    let m = case.wires.min(lower::MAX_WIRES);
+    let mut new = [UNTOUCHED; MAX_ROOM];
     let mut flags = [7u8; lower::MAX_WIRES];
     fused_in(
-        file,
+        case,
         old,
-        &mut new[0..n],
+        &mut new[..n],
         ands,
         imuls,
         bmuls,
         zeros,
         dsts,
         rhss,
-        &mut flags[0..m],
+        &mut flags[..m],
         z,
-        slots,
-        told,
-        res,
-        digest,
     )
 }
 
-// A house file that is not read is not answered as told.
-fn from_read(
-    read: Read,
-    file: &[u8],
-    old: &[u64],
-    ands: &mut [u64],
-    imuls: &mut [u64],
-    bmuls: &mut [u64],
-    zeros: &mut [u64],
-    dsts: &mut [u16],
-    rhss: &mut [u64],
-    slots: u64,
-    room: usize,
-    wires: usize,
-    told: Told,
-    res: &[u8],
-    digest: u64,
-) -> Seen
-    ensures { FromRead slots room wires file.now told res.now digest (stores old.now [] ands.old imuls.old bmuls.old zeros.old dsts.old rhss.old) (stores old.now [] ands.new imuls.new bmuls.new zeros.new dsts.new rhss.new) read result }
+// From the bytes on. A house file that is not read is not answered as told.
+pub fn attempt(case: &Case<'_>) -> Seen
+    ensures { Attempt case.now.file.now case.now.slots case.now.room case.now.wires case.now.told case.now.patched.now case.now.digest result }
 {
-    match read {
-        Read::Refused { number: _, at: _ } => judge::refusal_seen(false, digest),
-        Read::Done { sizes, terms: _ } => in_room(
-            file, old, ands, imuls, bmuls, zeros, dsts, rhss, sizes, slots, room, wires, told, res,
-            digest,
-        ),
-    }
-}
-
-// From the bytes on, with room for so many terms and so many flags.
-pub fn attempt(
-    file: &[u8],
-    slots: u64,
-    room: usize,
-    wires: usize,
-    told: Told,
-    res: &[u8],
-    digest: u64,
-) -> Seen
-    ensures { Attempt file.now slots room wires told res.now digest result }
-{
-    let mut terms = [places::UNTOUCHED; 8192];
-    let mut ands = [places::UNTOUCHED; 3072];
-    let mut imuls = [places::UNTOUCHED; 4096];
-    let mut bmuls = [places::UNTOUCHED; 6144];
-    let mut zeros = [places::UNTOUCHED; 1024];
+    let mut terms = [UNTOUCHED; 8192];
+    let mut ands = [UNTOUCHED; 3072];
+    let mut imuls = [UNTOUCHED; 4096];
+    let mut bmuls = [UNTOUCHED; 6144];
+    let mut zeros = [UNTOUCHED; 1024];
     let mut dsts = [7u16; 1024];
-    let mut rhss = [places::UNTOUCHED; 1024];
-    let read = house_read::read(
-        file, &mut terms, &mut ands, &mut imuls, &mut bmuls, &mut zeros, &mut dsts, &mut rhss,
+    let mut rhss = [UNTOUCHED; 1024];
+    let answer = house_read::read(
+        case.file, &mut terms, &mut ands, &mut imuls, &mut bmuls, &mut zeros, &mut dsts, &mut rhss,
     );
-    from_read(
-        read, file, &terms, &mut ands, &mut imuls, &mut bmuls, &mut zeros, &mut dsts, &mut rhss,
-        slots, room, wires, told, res, digest,
+    let Ok(read) = answer else {
+        return judge::refusal_seen(false, case.digest);
+    };
+    in_room(
+        case, &terms, &mut ands, &mut imuls, &mut bmuls, &mut zeros, &mut dsts, &mut rhss,
+        read.sizes,
     )
 }

@@ -4,12 +4,13 @@
 // have to be.
 #![tactic(auto)]
 
-ghost use Rattle.std.specs.Prelude.{◌≡◌, ◌+◌, ◌^◌, ◌<◌, ◌≤◌, IfOk, length};
-ghost use Rattle.replay_fuse.specs.Replay.{number_at, vector_at, told_at, VectorReplayed, ReplayedAll};
+ghost use Rattle.std.specs.Prelude.{◌≡◌, ◌+◌, ◌^◌, ◌<◌, ◌≤◌, length};
+ghost use Rattle.replaying.specs.Places.{part_of};
+ghost use Rattle.replay_fuse.specs.Replay.{vector_at, told_at, VectorReplayed, ReplayedAll};
 
-use judge::Told;
+use judge::{Case, Told};
+use replaying::{number, part};
 use std::io;
-use std::io::Read;
 use tally::Tally;
 
 mod attempt;
@@ -32,14 +33,7 @@ struct Vector {
     end: usize,
 }
 
-// A number of four bytes, the low one first.
-fn number(input: &[u8], at: usize) -> usize
-    requires { at < 2 ^ 62 }
-    ensures { (result ≡ number_at input.now at) × (result < 4294967296) }
-{
-    house_file::num(input, at) + 65536 * house_file::num(input, at + 2)
-}
-
+#[tactic(auto, unfolding(crate::specs::Replay::vector_at))]
 fn vector_at(input: &[u8], at: usize) -> Vector
     requires { at < 2 ^ 61 }
     ensures value { result ≡ vector_at input.now at }
@@ -61,6 +55,7 @@ fn vector_at(input: &[u8], at: usize) -> Vector
 }
 
 // What a vector tells: its refusal, and its counts.
+#[tactic(auto, unfolding(crate::specs::Replay::told_at))]
 fn told_at(input: &[u8], answer: usize, counts: usize) -> Told
     requires { (answer < 2 ^ 61) × (counts < 2 ^ 61) }
     ensures { result ≡ told_at input.now answer counts }
@@ -75,68 +70,58 @@ fn told_at(input: &[u8], answer: usize, counts: usize) -> Told
     }
 }
 
-fn replay_vector(file: &[u8], slots: u64, room: usize, told: Told, res: &[u8], t: Tally) -> Tally
-    ensures { VectorReplayed file.now slots room told res.now t result }
+fn replay_vector(input: &[u8], v: Vector, t: Tally) -> Tally
+    requires { (v.answer < 2 ^ 61) × (v.counts < 2 ^ 61) }
+    ensures { VectorReplayed (part_of input.now v.file v.answer) v.slots v.room (told_at input.now v.answer v.counts) (part_of input.now v.result v.counts) t result }
 {
-    let seen = attempt::attempt(file, slots, room, lower::MAX_WIRES, told, res, t.digest);
-    let u = tally::vector_counted(t, seen);
-    further::check_further(file, slots, room, told, res, u)
+    let case = Case {
+        file: part(input, v.file, v.answer),
+        slots: v.slots,
+        room: v.room,
+        wires: lower::MAX_WIRES,
+        told: told_at(input, v.answer, v.counts),
+        patched: part(input, v.result, v.counts),
+        digest: t.digest,
+    };
+    let seen = attempt::attempt(&case);
+    further::check_further(&case, t.with_vector(seen))
 }
 
+// Kept: each vector says where the next begins, so the loop does not go over a range.
 fn replay(input: &[u8]) -> Tally
     requires { length input.now ≤ 262144 }
     ensures { ReplayedAll input.now result }
 {
-    let mut t = tally::nothing();
+    let mut t = Tally::default();
     let mut at = 4;
     while at < input.len() {
         let v = vector_at(input, at);
-        t = replay_vector(
-            places::part(input, v.file, v.answer),
-            v.slots,
-            v.room,
-            told_at(input, v.answer, v.counts),
-            places::part(input, v.result, v.counts),
-            t,
-        );
+        t = replay_vector(input, v, t);
         at = v.end;
     }
     t
 }
 
-// Reads until `buf` is full or the input ends, and returns how many bytes it put at the start of `buf`.
-fn read_full<R: Read>(reader: &mut R, buf: &mut [u8]) -> io::Result<usize>
-    ensures { IfOk result (λ n. n ≤ length buf.new) }
-{
-    let mut done = 0;
-    while done < buf.len() {
-        let n = reader.read(&mut buf[done..])?;
-        if n == 0 {
-            break;
-        }
-        done += n;
+fn print(rt: &impl Print, t: Tally) -> io::Result<()> {
+    let lines = [
+        ("vectors right ", t.right),
+        ("vectors wrong ", t.wrong),
+        ("gone ", t.gone),
+        ("stranded ", t.stranded),
+        ("committed ", t.committed),
+        ("terms written ", t.written),
+        ("digest ", t.digest),
+        ("checks right ", t.passed),
+        ("checks wrong ", t.failed),
+    ];
+    for (label, n) in lines {
+        streams::print_number(rt, label, n)?;
     }
-    Ok(done)
-}
-
-fn print(rt: &impl Print, label: &str, n: u64) -> io::Result<()> {
-    println!(rt; "{label}{n}")
+    Ok(())
 }
 
 fn main(rt: HostRuntime) -> io::Result<()> {
     let mut input = [0u8; MAX_INPUT];
-    let n = read_full(&mut rt.stdin(), &mut input)?;
-    if MAX_INPUT < n {
-        return Ok(());
-    }
-    let t = replay(&input[0..n]);
-    print(&rt, "vectors right ", t.right)?;
-    print(&rt, "vectors wrong ", t.wrong)?;
-    print(&rt, "gone ", t.gone)?;
-    print(&rt, "stranded ", t.stranded)?;
-    print(&rt, "committed ", t.committed)?;
-    print(&rt, "terms written ", t.written)?;
-    print(&rt, "digest ", t.digest)?;
-    print(&rt, "checks right ", t.passed)?;
-    print(&rt, "checks wrong ", t.failed)
+    let n = streams::read_full(&mut rt.stdin(), &mut input)?;
+    print(&rt, replay(&input[..n]))
 }

@@ -1,11 +1,11 @@
 // What is counted of all vectors.
 ghost use Rattle.std.specs.Prelude.{◌≡◌, ◌+◌, ◌%◌, ◌^◌};
-ghost use Rattle.replay_fuse.specs.Tallies.{plus_if, nothing_counted, vector_counted, check_counted};
+ghost use Rattle.replay_fuse.specs.Tallies.{plus_if, vector_counted, check_counted};
 
 use crate::judge::Seen;
 
 // Vectors, what fusing told of them, a digest of the files written, and further checks.
-#[derive(Clone, Copy)]
+#[derive(Clone, Copy, Default)]
 pub struct Tally {
     pub right: u64,
     pub wrong: u64,
@@ -18,66 +18,44 @@ pub struct Tally {
     pub failed: u64,
 }
 
-pub fn nothing() -> Tally
-    ensures { result ≡ nothing_counted }
-{
-    Tally {
-        right: 0,
-        wrong: 0,
-        gone: 0,
-        stranded: 0,
-        committed: 0,
-        written: 0,
-        digest: 0,
-        passed: 0,
-        failed: 0,
-    }
-}
-
 // One more where it is so.
 fn plus(n: u64, so: bool) -> u64
     ensures { result ≡ plus_if n so }
 {
-    if so {
-        return std::num::wrapping_add_u64(n, 1);
-    }
-    n
+    if so { n.wrapping_add(1) } else { n }
 }
 
 fn sum(n: u64, m: usize) -> u64
     ensures { result ≡ (n + m) % 2 ^ 64 }
 {
-    std::num::wrapping_add_u64(n, m as u64)
+    n.wrapping_add(m as u64)
 }
 
-pub fn vector_counted(t: Tally, seen: Seen) -> Tally
-    ensures { result ≡ vector_counted t seen }
-{
-    Tally {
-        right: plus(t.right, seen.right),
-        wrong: plus(t.wrong, !seen.right),
-        gone: sum(t.gone, seen.gone),
-        stranded: sum(t.stranded, seen.stranded),
-        committed: sum(t.committed, seen.committed),
-        written: sum(t.written, seen.written),
-        digest: seen.digest,
-        passed: t.passed,
-        failed: t.failed,
+impl Tally {
+    // One more vector.
+    pub fn with_vector(self, seen: Seen) -> Tally
+        ensures { result ≡ vector_counted self seen }
+    {
+        Tally {
+            right: plus(self.right, seen.right),
+            wrong: plus(self.wrong, !seen.right),
+            gone: sum(self.gone, seen.gone),
+            stranded: sum(self.stranded, seen.stranded),
+            committed: sum(self.committed, seen.committed),
+            written: sum(self.written, seen.written),
+            digest: seen.digest,
+            ..self
+        }
     }
-}
 
-pub fn check_counted(t: Tally, right: bool) -> Tally
-    ensures { result ≡ check_counted t right }
-{
-    Tally {
-        right: t.right,
-        wrong: t.wrong,
-        gone: t.gone,
-        stranded: t.stranded,
-        committed: t.committed,
-        written: t.written,
-        digest: t.digest,
-        passed: plus(t.passed, right),
-        failed: plus(t.failed, !right),
+    // One more check.
+    pub fn with_check(self, right: bool) -> Tally
+        ensures { result ≡ check_counted self right }
+    {
+        Tally {
+            passed: plus(self.passed, right),
+            failed: plus(self.failed, !right),
+            ..self
+        }
     }
 }

@@ -1,8 +1,8 @@
--- Loops that make a store, mix bytes into a digest, and compare bytes. Assumes nothing.
+-- Loops that make a store, and that find a field. Assumes nothing.
 use Rattle.std.proofs.Common.{◌≡◌, ℕ, zero, suc, ◌+◌, ◌-◌, ◌<◌, ◌≤◌, Bool, true, false, ◌&&◌, eqb, List, [], ◌∷◌, ◌++◌, length, get_or, drop, set, refl, ap, ◌∙◌, append-nil, not-suc-le-zero, sub-one, arith, drop_of_length-le, le-ltb, lt-ltb, eq-eqb, ne_eqb}
 use lib.Seq.{sets, sets-eq}
 use Rattle.lower.proofs.Firsts.{drop_step}
-use Rattle.replay_house.specs.Replay.{mixed_of, digest_of, same_bytes, made_from, cut_from}
+use Rattle.replay_house.specs.Replay.{made_from, cut_from}
 use Rattle.house_file.specs.Decoding.{field_end}
 
 -- ---- a store that is made
@@ -37,60 +37,25 @@ made_first f l = let e : length l ≡ length l - 0 = omega arith in ap (λ (n : 
 pub made_less : (n i : ℕ) → n - i - 1 ≡ n - (i + 1)
 made_less n i = omega arith
 
--- ---- a digest
-
-pub digest_step : (d : ℕ) (l : List ℕ) (i : ℕ) → i < length l → digest_of d (drop i l) ≡ digest_of (mixed_of d (get_or l i 0)) (drop (i + 1) l)
-unfolding digest_of
-digest_step d l i h = ap (digest_of d) (drop_step l i 0 h)
-
-pub digest_end : (d : ℕ) (l : List ℕ) (i : ℕ) → length l ≤ i → digest_of d (drop i l) ≡ d
-unfolding digest_of
-digest_end d l i h = ap (digest_of d) (drop_of_length-le l {i = i} h)
-
--- ---- bytes compared
-
-pub same_lengths : (a b : List ℕ) → (length a ≡ length b → ⊥) → same_bytes a b ≡ false
-unfolding same_bytes
-same_lengths [] [] h = absurd (h refl)
-same_lengths [] (y ∷ b) h = refl
-same_lengths (x ∷ a) [] h = refl
-same_lengths (x ∷ a) (y ∷ b) h = rw (same_lengths a b (λ e. h (ap suc e))) (no (eqb x y))
-  where
-    no : (t : Bool) → (t && false) ≡ false
-    no true = refl
-    no false = refl
-
-module _ (a b : List ℕ) (i : ℕ) (p : i < length a) (q : i < length b) where
-  pub same_stop : (get_or a i 0 ≡ get_or b i 0 → ⊥) → same_bytes (drop i a) (drop i b) ≡ false
-  unfolding same_bytes
-  same_stop h = rw (drop_step a i 0 p, drop_step b i 0 q, ne_eqb (get_or a i 0) (get_or b i 0) h)
-
-  pub same_go : get_or a i 0 ≡ get_or b i 0 → same_bytes (drop i a) (drop i b) ≡ same_bytes (drop (i + 1) a) (drop (i + 1) b)
-  unfolding same_bytes
-  same_go h = rw (drop_step a i 0 p, drop_step b i 0 q, eq-eqb (get_or a i 0) (get_or b i 0) h)
-
-pub same_end : (a b : List ℕ) (i : ℕ) → length a ≤ i → length b ≤ i → same_bytes (drop i a) (drop i b) ≡ true
-unfolding same_bytes
-same_end a b i p q = rw (drop_of_length-le a {i = i} p, drop_of_length-le b {i = i} q)
-
 -- ---- a file cut
 
-module _ (file : List ℕ) (end at : ℕ) where
-  pub cut_head : (k : ℕ) → 0 < k → end < at + 3 → cut_from file end k at ≡ at
-  unfolding cut_from
-  cut_head zero h l = absurd (not-suc-le-zero h)
-  cut_head (suc k) h l = rw (lt-ltb end (at + 3) l)
+-- what is left after i of k turns
+module _ (file : List ℕ) (end at k i : ℕ) (h : i < k) where
+  one_more : k - i ≡ suc (k - (i + 1))
+  one_more = omega arith
 
-  pub cut_here : (k : ℕ) → 0 < k → at + 3 ≤ end → end < field_end file at → cut_from file end k at ≡ at
+  pub cut_head : end < at + 3 → cut_from file end (k - i) at ≡ at
   unfolding cut_from
-  cut_here zero h l m = absurd (not-suc-le-zero h)
-  cut_here (suc k) h l m = rw (le-ltb end (at + 3) l, lt-ltb end (field_end file at) m)
+  cut_head l = rw (one_more, lt-ltb end (at + 3) l)
 
-  pub cut_on : (k : ℕ) → 0 < k → at + 3 ≤ end → field_end file at ≤ end → cut_from file end k at ≡ cut_from file end (k - 1) (field_end file at)
+  pub cut_here : at + 3 ≤ end → end < field_end file at → cut_from file end (k - i) at ≡ at
   unfolding cut_from
-  cut_on zero h l m = absurd (not-suc-le-zero h)
-  cut_on (suc k) h l m = rw (le-ltb end (at + 3) l, le-ltb end (field_end file at) m, sub-one (suc k))
+  cut_here l m = rw (one_more, le-ltb end (at + 3) l, lt-ltb end (field_end file at) m)
 
-  pub cut_end : (k : ℕ) → k ≡ 0 → cut_from file end k at ≡ at
+  pub cut_on : at + 3 ≤ end → field_end file at ≤ end → cut_from file end (k - i) at ≡ cut_from file end (k - (i + 1)) (field_end file at)
   unfolding cut_from
-  cut_end k e = rw e
+  cut_on l m = rw (one_more, le-ltb end (at + 3) l, le-ltb end (field_end file at) m)
+
+pub cut_end : (file : List ℕ) (end at k : ℕ) → k ≡ 0 → cut_from file end k at ≡ at
+unfolding cut_from
+cut_end file end at k e = rw e

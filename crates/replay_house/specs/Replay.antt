@@ -2,11 +2,12 @@
 --
 --   number_at s at     a number of four bytes, the low one first; 0 where they are not all there
 --   counted t b       one more check, right or wrong
---   mixed_of d n       the digest d with the number n; digest_of d bs, with all of bs
---   refused_seen       a file that is not read; done_seen, one that is, with what writing gave
---   same_counts, same_seen    all numbers of the two are the same
---   expected_at        what a vector asks of a file: nine numbers; a file that is read is written again in as many bytes
---   same_bytes a b     the two lists are the same
+--   with_number t n    what was counted, with the number n in the digest; with_bytes t bs, with all of bs
+--   refused_seen       a file that is not read; done_seen, one that is, with what writing gave; written_seen, by the writer's answer, and
+--                      outcome_seen, by its fault and the length
+--   same_seen          all numbers of the two are the same
+--   expected_at        what a vector asks of a file: nine numbers, if they are there; a file that is read is written again in as many bytes
+--   meets_asked        that was seen
 --   Held, passOf      what reading a file leaves in stores of 8,192 terms and the limits' rows and definitions, and what writing that gives
 --   Passed            that, and the lent bytes afterwards
 --   State             the two lent stores of bytes, and what was counted
@@ -14,30 +15,30 @@
 --   vector_of          one vector: read, written, held against what it asks, and again where it is read
 --   vectors_of         so many vectors from an offset on
 --   term_made ..       the i-th term, operand and wire of a system that is made; made_from f i n, n of them from the i-th on
---   case_of ..         a case by its numbers: what is made, and what writing and reading it give
+--   case_of ..         a case: what is made, and what has to come of it
 --   cut_at file end    where the field starts that a file cut at `end` lacks the end of
---   made_stores c      the stores of the system of a case; made_by, what writing it gives
+--   made_stores c      the stores of the system of a case
 --
 -- Assumes nothing.
-use Rattle.std.specs.Prelude.{◌≡◌, ℕ, zero, suc, ◌+◌, ◌*◌, ◌/◌, ◌%◌, ◌^◌, Bool, true, false, cond, ◌&&◌, List, [], ◌∷◌, length, take, drop, replicate, ◌==◌, nat_le, nat_lt}
+use Rattle.std.specs.Prelude.{◌≡◌, ℕ, zero, suc, ◌+◌, ◌*◌, ◌/◌, ◌%◌, ◌^◌, Bool, false, cond, ◌&&◌, List, [], ◌∷◌, length, take, drop, replicate, ◌==◌, nat_le, nat_lt, Option, Some, None, Result, Ok, Err}
 use Rattle.std.proofs.lemmas.List.Edits.{sets}
+use Rattle.refusal.specs.declared.Refusal.{Refusal}
+use Rattle.refusal.specs.Refusals.{number_of}
 use Rattle.operand.specs.Numbers.{term_number, operand_number}
 use Rattle.lower.specs.declared.Sizes.{Sizes}
 use Rattle.lower.specs.Stores.{Stores, stores, system_of}
-use Rattle.house_file.specs.Format.{Entry, LINEAR, file_of}
+use Rattle.house_file.specs.Format.{Entry, LINEAR, file_of, file_size, entries_of}
 use Rattle.house_file.specs.Decoding.{u16_at, field_end}
-use Rattle.house_file.specs.Reading.{read_of, entries_read}
-use Rattle.house_file.specs.declared.Read.{Read}
-use Rattle.house_file.specs.declared.Read.TheVariants as R
+use Rattle.house_file.specs.Reading.{Fault, read_of, entries_read}
+use Rattle.house_file.specs.declared.FileRead.{FileRead}
 use Rattle.house_fill.specs.Layout.{terms_laid, list_laid, destinations_laid}
 use Rattle.house_read.specs.Answer.{with_room}
-use Rattle.house_write.specs.Write.{write_fault, written_of, bytes_by}
-use Rattle.house_write.specs.declared.Written.{Written}
-use Rattle.house_write.specs.declared.Written.TheVariants as W
+use Rattle.house_write.specs.Write.{write_fault, bytes_by}
+use Rattle.replaying.specs.Places.{mixed, digest_of, same_from}
 use Rattle.replay_house.specs.declared.tally.Tally.{Tally}
 use Rattle.replay_house.specs.declared.pass.Seen.{Seen}
 use Rattle.replay_house.specs.declared.limits.Case.{Case}
-use Rattle.replay_house.specs.declared.limits.Made.{Made}
+use Rattle.replay_house.specs.declared.limits.Outcome.{Outcome}
 
 unfoldable pub number_at : List ℕ → ℕ → ℕ
 number_at s at = cond (nat_le (at + 4) (length s)) (u16_at s at + 65536 * u16_at s (at + 2)) 0
@@ -52,18 +53,11 @@ counted t b =
       digest = t.digest;
     }
 
-abbrev pub mixed_of : ℕ → ℕ → ℕ
-mixed_of d n = (d % 1000000007 * 31 + n % 1000000007) % 1000000007
-
 abbrev pub with_number : Tally → ℕ → Tally
-with_number t n = record { right = t.right; wrong = t.wrong; digest = mixed_of t.digest n }
-
-unfoldable pub digest_of : ℕ → List ℕ → ℕ
-digest_of d [] = d
-digest_of d (b ∷ bs) = digest_of (mixed_of d b) bs
+with_number t n = record { right = t.right; wrong = t.wrong; digest = mixed t.digest n }
 
 abbrev pub with_bytes : Tally → List ℕ → Tally
-with_bytes t bs = record { right = t.right; wrong = t.wrong; digest = digest_of t.digest bs }
+with_bytes t bs = record { right = t.right; wrong = t.wrong; digest = digest_of bs t.digest }
 
 -- ---- one file
 
@@ -71,46 +65,41 @@ abbrev pub refused_seen : ℕ → ℕ → Seen
 refused_seen n at =
     record { number = n; at = at; wires = 0; ands = 0; imuls = 0; bmuls = 0; zeros = 0; linears = 0; terms = 0; written = 0; length = 0 }
 
-abbrev pub done_seen : Sizes → ℕ → ℕ → ℕ → Seen
-done_seen z terms written length =
+abbrev pub done_seen : FileRead → ℕ → ℕ → Seen
+done_seen r written length =
     record {
       number = 0;
       at = 0;
-      wires = z.wires;
-      ands = z.ands;
-      imuls = z.imuls;
-      bmuls = z.bmuls;
-      zeros = z.zeros;
-      linears = z.linears;
-      terms = terms;
+      wires = r.sizes.wires;
+      ands = r.sizes.ands;
+      imuls = r.sizes.imuls;
+      bmuls = r.sizes.bmuls;
+      zeros = r.sizes.zeros;
+      linears = r.sizes.linears;
+      terms = r.terms;
       written = written;
       length = length;
     }
 
-abbrev pub written_seen : Sizes → ℕ → Written → Seen
-written_seen z terms (W.Done n) = done_seen z terms 0 n
-written_seen z terms (W.Refused number) = done_seen z terms number 0
+abbrev pub written_seen : FileRead → Result ℕ Refusal → Seen
+written_seen r (Ok n) = done_seen r 0 n
+written_seen r (Err refusal) = done_seen r (number_of refusal) 0
 
-unfoldable pub same_counts : Seen → Seen → Bool
-same_counts a b =
-    (a.wires == b.wires)
-    && (a.ands == b.ands
-    && (a.imuls == b.imuls && (a.bmuls == b.bmuls && (a.zeros == b.zeros && a.linears == b.linears))))
+abbrev pub outcome_seen : FileRead → ℕ → ℕ → Seen
+outcome_seen r zero n = done_seen r 0 n
+outcome_seen r (suc f) n = done_seen r (suc f) 0
 
 unfoldable pub same_seen : Seen → Seen → Bool
 same_seen a b =
-    (a.number == b.number)
+    a.number == b.number
     && (a.at == b.at
-    && (a.terms == b.terms && (a.written == b.written && (a.length == b.length && same_counts a b))))
-
-unfoldable pub same_bytes : List ℕ → List ℕ → Bool
-same_bytes [] [] = true
-same_bytes [] (y ∷ ys) = false
-same_bytes (x ∷ xs) [] = false
-same_bytes (x ∷ xs) (y ∷ ys) = x == y && same_bytes xs ys
+    && (a.wires == b.wires
+    && (a.ands == b.ands
+    && (a.imuls == b.imuls
+    && (a.bmuls == b.bmuls && (a.zeros == b.zeros && (a.linears == b.linears && (a.terms == b.terms && (a.written == b.written && a.length == b.length)))))))))
 
 -- what reading s answers, and what it leaves
-abbrev pub read_in : List ℕ → Read
+abbrev pub read_in : List ℕ → Result FileRead Fault
 read_in s = with_room (read_of s) (length s) 8192 3072 4096 6144 1024 1024 1024
 
 abbrev pub held_of : List Entry → Stores
@@ -119,13 +108,13 @@ held_of es =
     (sets (replicate 6144 0) 0 (list_laid 4 0 es)) (sets (replicate 1024 0) 0 (list_laid 5 0 es)) (sets (replicate 1024 0) 0 (destinations_laid es))
     (sets (replicate 1024 0) 0 (list_laid LINEAR 0 es))
 
-abbrev pub pass_by : List Entry → Read → ℕ → Seen
-pass_by es (R.Refused number at) room = refused_seen number at
-pass_by es (R.Done z terms) room = written_seen z terms (written_of z (held_of es) room)
+abbrev pub pass_by : List Entry → Result FileRead Fault → ℕ → Seen
+pass_by es (Err f) room = refused_seen f.number f.at
+pass_by es (Ok r) room = outcome_seen r (write_fault r.sizes (held_of es) room) (file_size (entries_of (system_of r.sizes (held_of es))))
 
-abbrev pub bytes_after : List Entry → Read → List ℕ → List ℕ
-bytes_after es (R.Refused number at) out = out
-bytes_after es (R.Done z terms) out = sets out 0 (bytes_by (write_fault z (held_of es) (length out)) (file_of (system_of z (held_of es))))
+abbrev pub bytes_after : List Entry → Result FileRead Fault → List ℕ → List ℕ
+bytes_after es (Err f) out = out
+bytes_after es (Ok r) out = sets out 0 (bytes_by (write_fault r.sizes (held_of es) (length out)) (file_of (system_of r.sizes (held_of es))))
 
 pub record Passed (s out : List ℕ) (r : Seen) (out' : List ℕ) : Type 0 where
   pub seen_is : r ≡ pass_by (entries_read s (read_in s)) (read_in s) (length out)
@@ -139,9 +128,10 @@ pass_seen s room = pass_by (entries_read s (read_in s)) (read_in s) room
 abbrev pub pass_bytes : List ℕ → List ℕ → List ℕ
 pass_bytes s out = bytes_after (entries_read s (read_in s)) (read_in s) out
 
-unfoldable pub expected_at : List ℕ → ℕ → ℕ → Seen
+unfoldable pub expected_at : List ℕ → ℕ → ℕ → Option Seen
 expected_at s at n =
     cond (nat_le at (length s))
+    (Some
     (record {
       number = number_at s at;
       at = number_at s (at + 4);
@@ -154,8 +144,12 @@ expected_at s at n =
       terms = number_at s (at + 32);
       written = 0;
       length = cond (number_at s at == 0) n 0;
-    })
-    (refused_seen 255 0)
+    }))
+    None
+
+abbrev pub meets_asked : Seen → Option Seen → Bool
+meets_asked seen None = false
+meets_asked seen (Some asked) = same_seen seen asked
 
 pub record State : Type 0 where
   pub one : List ℕ
@@ -167,7 +161,7 @@ state_of one two t = record { one = one; two = two; tally = t }
 
 unfoldable pub compared_tally : Seen → List ℕ → List ℕ → Tally → Tally
 compared_tally seen file two t =
-    with_bytes (counted (counted t (same_seen seen (pass_seen file (length two)))) (same_bytes file (take (length file) (pass_bytes file two)))) file
+    with_bytes (counted (counted t (same_seen seen (pass_seen file (length two)))) (same_from file (take (length file) (pass_bytes file two)) 0)) file
 
 unfoldable pub again_of : Seen → State → State
 again_of seen s =
@@ -175,11 +169,11 @@ again_of seen s =
     (state_of s.one (pass_bytes (take seen.length s.one) s.two) (compared_tally seen (take seen.length s.one) s.two s.tally))
     (state_of s.one s.two (counted s.tally false))
 
-abbrev pub told_of : Tally → Seen → Seen → Tally
-told_of t seen asked = counted (with_number (with_number t seen.number) seen.at) (same_seen seen asked)
+abbrev pub told_of : Tally → Seen → Option Seen → Tally
+told_of t seen asked = counted (with_number (with_number t seen.number) seen.at) (meets_asked seen asked)
 
 -- the file, and what it has to be answered with
-unfoldable pub file_of_vector : List ℕ → Seen → State → State
+unfoldable pub file_of_vector : List ℕ → Option Seen → State → State
 file_of_vector file asked s =
     cond ((pass_seen file (length s.one)).number == 0)
     (again_of (pass_seen file (length s.one)) (state_of (pass_bytes file s.one) s.two (told_of s.tally (pass_seen file (length s.one)) asked)))
@@ -216,17 +210,8 @@ made_stores c =
     (made_from (operand_made c.row) 0 6150) (made_from (operand_made c.row) 0 1025) (made_from (wire_made c.sizes.wires) 0 1025)
     (made_from (operand_made c.side) 0 1025)
 
-abbrev pub made_by : Written → Made
-made_by (W.Done n) = record { number = 0; length = n }
-made_by (W.Refused f) = record { number = f; length = 0 }
-
-pub record IsMade (c : Case) (out : List ℕ) (r : Made) (out' : List ℕ) : Type 0 where
-  pub answer : r ≡ made_by (written_of c.sizes (made_stores c) (length out))
-  pub bytes_are : out' ≡ sets out 0 (bytes_by (write_fault c.sizes (made_stores c) (length out)) (file_of (system_of c.sizes (made_stores c))))
-
-abbrev pub case_of : Sizes → ℕ → ℕ → ℕ → ℕ → ℕ → ℕ → Case
-case_of z row side written grow number back =
-    record { sizes = z; row = row; side = side; written = written; grow = grow; number = number; back = back }
+abbrev pub case_of : Sizes → ℕ → ℕ → Outcome → Case
+case_of z row side outcome = record { sizes = z; row = row; side = side; outcome = outcome }
 
 abbrev pub sizes_from : ℕ → ℕ → ℕ → ℕ → ℕ → ℕ → Sizes
 sizes_from w a i b o l = record { wires = w; ands = a; imuls = i; bmuls = b; zeros = o; linears = l }

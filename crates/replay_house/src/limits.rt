@@ -1,24 +1,31 @@
 // Files at the limits, made by loops, written, and read again.
-ghost use Rattle.std.specs.Prelude.{◌≡◌, length, slice_set};
-ghost use Rattle.replay_house.specs.Replay.{term_made, operand_made, wire_made, made_from, made_by, IsMade, case_of, sizes_from, cut_at};
+ghost use Rattle.std.specs.Prelude.{◌≡◌, length};
+ghost use Rattle.house_write.specs.Write.{WriteIs};
+ghost use Rattle.replay_house.specs.Replay.{term_made, operand_made, wire_made, made_from, made_stores, case_of, sizes_from, cut_at};
 
+use crate::pass;
 use crate::tally::Tally;
-use crate::{pass, tally};
-use house_write::Written;
-use lower::Sizes;
-use operand::{Wire, WireOperand};
+use house_file::FileFault;
+use lower::{LentSystem, Sizes};
+use operand::{TermStores, Wire, WireOperand};
+use refusal::Refusal;
 
-// A system by its counts and by how many terms each operand of a row has and each right side; the number that writing gives; how many bytes
-// of the first record are put into the file once more; the number that reading gives then, and how far its offset is from the file's end.
+// What has to come of a system: it is not written; or its file, with so many bytes of the first record put in once more, is over a limit, told
+// so far from the file's end; or its file reads back.
+#[derive(Clone, Copy)]
+pub enum Outcome {
+    Unwritten(Refusal),
+    Over { grow: usize, back: usize },
+    Fine,
+}
+
+// A system by its counts and by how many terms each operand of a row has and each right side, and what has to come of it.
 #[derive(Clone, Copy)]
 pub struct Case {
     sizes: Sizes,
     row: usize,
     side: usize,
-    written: usize,
-    grow: usize,
-    number: usize,
-    back: usize,
+    outcome: Outcome,
 }
 
 const CASES: usize = 35;
@@ -43,206 +50,136 @@ fn counts(
     }
 }
 
-// A system that is not written.
-fn refused(sizes: Sizes, row: usize, side: usize, written: usize) -> Case
-    ensures { result ≡ case_of sizes row side written 0 0 0 }
+fn refused(sizes: Sizes, row: usize, side: usize, refusal: Refusal) -> Case
+    ensures { result ≡ case_of sizes row side (Outcome.Unwritten refusal) }
 {
     Case {
-        sizes: sizes,
-        row: row,
-        side: side,
-        written: written,
-        grow: 0,
-        number: 0,
-        back: 0,
+        sizes,
+        row,
+        side,
+        outcome: Outcome::Unwritten(refusal),
     }
 }
 
-// One that is, and whose file is not read.
 fn over(sizes: Sizes, row: usize, side: usize, grow: usize, back: usize) -> Case
-    ensures { result ≡ case_of sizes row side 0 grow 6 back }
+    ensures { result ≡ case_of sizes row side (Outcome.Over grow back) }
 {
     Case {
-        sizes: sizes,
-        row: row,
-        side: side,
-        written: 0,
-        grow: grow,
-        number: 6,
-        back: back,
+        sizes,
+        row,
+        side,
+        outcome: Outcome::Over { grow, back },
     }
 }
 
-// One that reads back.
 fn fine(sizes: Sizes, row: usize, side: usize) -> Case
-    ensures { result ≡ case_of sizes row side 0 0 0 0 }
+    ensures { result ≡ case_of sizes row side Outcome.Fine }
 {
     Case {
-        sizes: sizes,
-        row: row,
-        side: side,
-        written: 0,
-        grow: 0,
-        number: 0,
-        back: 0,
+        sizes,
+        row,
+        side,
+        outcome: Outcome::Fine,
     }
 }
 
 fn terms_case(i: usize) -> Case {
-    // one of each
-    if i == 0 {
-        return fine(counts(7, 1, 1, 1, 1, 1), 2, 3);
+    match i {
+        // one of each
+        0 => fine(counts(7, 1, 1, 1, 1, 1), 2, 3),
+        // 8,192 terms
+        1 => fine(counts(4096, 0, 0, 0, 0, 1024), 1, 8),
+        // 8,193
+        2 => over(counts(4096, 0, 0, 0, 1, 1024), 1, 8, 0, 58),
+        // 24,576 terms
+        3 => over(counts(4096, 0, 0, 0, 0, 1024), 1, 24, 0, 103136),
+        // 24,577
+        4 => refused(counts(4096, 0, 0, 0, 1, 1024), 1, 24, Refusal::Full),
+        // a payload of 65,534 bytes
+        5 => over(counts(7, 0, 0, 0, 1, 0), 10922, 1, 0, 65540),
+        // one of 65,536
+        6 => refused(counts(7, 0, 0, 0, 0, 1), 1, 10922, Refusal::Wide),
+        // one of 65,530
+        7 => over(counts(7, 0, 0, 0, 0, 1), 1, 10921, 0, 65536),
+        // three operands in 65,526 bytes
+        _ => over(counts(7, 1, 0, 0, 0, 0), 3640, 1, 0, 65532),
     }
-    // 8,192 terms
-    if i == 1 {
-        return fine(counts(4096, 0, 0, 0, 0, 1024), 1, 8);
-    }
-    // 8,193
-    if i == 2 {
-        return over(counts(4096, 0, 0, 0, 1, 1024), 1, 8, 0, 58);
-    }
-    // 24,576 terms
-    if i == 3 {
-        return over(counts(4096, 0, 0, 0, 0, 1024), 1, 24, 0, 103136);
-    }
-    // 24,577
-    if i == 4 {
-        return refused(counts(4096, 0, 0, 0, 1, 1024), 1, 24, 6);
-    }
-    // a payload of 65,534 bytes
-    if i == 5 {
-        return over(counts(7, 0, 0, 0, 1, 0), 10922, 1, 0, 65540);
-    }
-    // one of 65,536
-    if i == 6 {
-        return refused(counts(7, 0, 0, 0, 0, 1), 1, 10922, 14);
-    }
-    // one of 65,530
-    if i == 7 {
-        return over(counts(7, 0, 0, 0, 0, 1), 1, 10921, 0, 65536);
-    }
-    // three operands in 65,526 bytes
-    over(counts(7, 1, 0, 0, 0, 0), 3640, 1, 0, 65532)
 }
 
 fn payloads_case(i: usize) -> Case {
-    // in 65,544
-    if i == 9 {
-        return refused(counts(7, 1, 0, 0, 0, 0), 3641, 1, 14);
+    match i {
+        // in 65,544
+        9 => refused(counts(7, 1, 0, 0, 0, 0), 3641, 1, Refusal::Wide),
+        // four in 65,528
+        10 => over(counts(7, 0, 1, 0, 0, 0), 2730, 1, 0, 65534),
+        // in 65,552
+        11 => refused(counts(7, 0, 1, 0, 0, 0), 2731, 1, Refusal::Wide),
+        // six in 65,532
+        12 => over(counts(7, 0, 0, 1, 0, 0), 1820, 1, 0, 65538),
+        // in 65,568
+        13 => refused(counts(7, 0, 0, 1, 0, 0), 1821, 1, Refusal::Wide),
+        // 4,096 wires
+        14 => fine(counts(4096, 0, 0, 0, 1, 0), 1, 1),
+        // 4,097
+        15 => refused(counts(4097, 0, 0, 0, 1, 0), 1, 1, Refusal::Full),
+        // none
+        16 => refused(counts(0, 0, 0, 0, 0, 0), 1, 1, Refusal::Full),
+        // nothing but a wire
+        _ => fine(counts(1, 0, 0, 0, 0, 0), 1, 1),
     }
-    // four in 65,528
-    if i == 10 {
-        return over(counts(7, 0, 1, 0, 0, 0), 2730, 1, 0, 65534);
-    }
-    // in 65,552
-    if i == 11 {
-        return refused(counts(7, 0, 1, 0, 0, 0), 2731, 1, 14);
-    }
-    // six in 65,532
-    if i == 12 {
-        return over(counts(7, 0, 0, 1, 0, 0), 1820, 1, 0, 65538);
-    }
-    // in 65,568
-    if i == 13 {
-        return refused(counts(7, 0, 0, 1, 0, 0), 1821, 1, 14);
-    }
-    // 4,096 wires
-    if i == 14 {
-        return fine(counts(4096, 0, 0, 0, 1, 0), 1, 1);
-    }
-    // 4,097
-    if i == 15 {
-        return refused(counts(4097, 0, 0, 0, 1, 0), 1, 1, 6);
-    }
-    // none
-    if i == 16 {
-        return refused(counts(0, 0, 0, 0, 0, 0), 1, 1, 6);
-    }
-    // nothing but a wire
-    fine(counts(1, 0, 0, 0, 0, 0), 1, 1)
 }
 
 fn kinds_case(i: usize) -> Case {
-    // 1,024 of a kind, and one more in the file
-    if i == 18 {
-        return over(counts(7, 1024, 0, 0, 0, 0), 1, 1, 27, 30);
+    match i {
+        // 1,024 of a kind, and one more in the file
+        18 => over(counts(7, 1024, 0, 0, 0, 0), 1, 1, 27, 30),
+        // 1,024 of a kind
+        19 => fine(counts(7, 1024, 0, 0, 0, 0), 1, 1),
+        // 1,025
+        20 => refused(counts(7, 1025, 0, 0, 0, 0), 1, 1, Refusal::Full),
+        // 1,024 of a kind, and one more in the file
+        21 => over(counts(7, 0, 1024, 0, 0, 0), 1, 1, 35, 38),
+        // 1,024 of a kind
+        22 => fine(counts(7, 0, 1024, 0, 0, 0), 1, 1),
+        // 1,025
+        23 => refused(counts(7, 0, 1025, 0, 0, 0), 1, 1, Refusal::Full),
+        // 1,024 of a kind, and one more in the file
+        24 => over(counts(7, 0, 0, 1024, 0, 0), 1, 1, 51, 54),
+        // 1,024 of a kind
+        25 => fine(counts(7, 0, 0, 1024, 0, 0), 1, 1),
+        // 1,025
+        _ => refused(counts(7, 0, 0, 1025, 0, 0), 1, 1, Refusal::Full),
     }
-    // 1,024 of a kind
-    if i == 19 {
-        return fine(counts(7, 1024, 0, 0, 0, 0), 1, 1);
-    }
-    // 1,025
-    if i == 20 {
-        return refused(counts(7, 1025, 0, 0, 0, 0), 1, 1, 6);
-    }
-    // 1,024 of a kind, and one more in the file
-    if i == 21 {
-        return over(counts(7, 0, 1024, 0, 0, 0), 1, 1, 35, 38);
-    }
-    // 1,024 of a kind
-    if i == 22 {
-        return fine(counts(7, 0, 1024, 0, 0, 0), 1, 1);
-    }
-    // 1,025
-    if i == 23 {
-        return refused(counts(7, 0, 1025, 0, 0, 0), 1, 1, 6);
-    }
-    // 1,024 of a kind, and one more in the file
-    if i == 24 {
-        return over(counts(7, 0, 0, 1024, 0, 0), 1, 1, 51, 54);
-    }
-    // 1,024 of a kind
-    if i == 25 {
-        return fine(counts(7, 0, 0, 1024, 0, 0), 1, 1);
-    }
-    // 1,025
-    refused(counts(7, 0, 0, 1025, 0, 0), 1, 1, 6)
 }
 
 fn sums_case(i: usize) -> Case {
-    // 1,024 of a kind, and one more in the file
-    if i == 27 {
-        return over(counts(7, 0, 0, 0, 1024, 0), 1, 1, 11, 14);
+    match i {
+        // 1,024 of a kind, and one more in the file
+        27 => over(counts(7, 0, 0, 0, 1024, 0), 1, 1, 11, 14),
+        // 1,024 of a kind
+        28 => fine(counts(7, 0, 0, 0, 1024, 0), 1, 1),
+        // 1,025
+        29 => refused(counts(7, 0, 0, 0, 1025, 0), 1, 1, Refusal::Full),
+        // 1,024 of a kind, and one more in the file
+        30 => over(counts(7, 0, 0, 0, 0, 1024), 1, 1, 13, 16),
+        // 1,024 of a kind
+        31 => fine(counts(7, 0, 0, 0, 0, 1024), 1, 1),
+        // 1,025
+        32 => refused(counts(7, 0, 0, 0, 0, 1025), 1, 1, Refusal::Full),
+        // 1,024 in all
+        33 => fine(counts(7, 256, 256, 256, 256, 1024), 1, 1),
+        // 1,025 in all
+        _ => refused(counts(7, 256, 256, 256, 257, 1024), 1, 1, Refusal::Full),
     }
-    // 1,024 of a kind
-    if i == 28 {
-        return fine(counts(7, 0, 0, 0, 1024, 0), 1, 1);
-    }
-    // 1,025
-    if i == 29 {
-        return refused(counts(7, 0, 0, 0, 1025, 0), 1, 1, 6);
-    }
-    // 1,024 of a kind, and one more in the file
-    if i == 30 {
-        return over(counts(7, 0, 0, 0, 0, 1024), 1, 1, 13, 16);
-    }
-    // 1,024 of a kind
-    if i == 31 {
-        return fine(counts(7, 0, 0, 0, 0, 1024), 1, 1);
-    }
-    // 1,025
-    if i == 32 {
-        return refused(counts(7, 0, 0, 0, 0, 1025), 1, 1, 6);
-    }
-    // 1,024 in all
-    if i == 33 {
-        return fine(counts(7, 256, 256, 256, 256, 1024), 1, 1);
-    }
-    // 1,025 in all
-    refused(counts(7, 256, 256, 256, 257, 1024), 1, 1, 6)
 }
 
 fn limit_at(i: usize) -> Case {
-    if i < 9 {
-        return terms_case(i);
+    match i {
+        0..9 => terms_case(i),
+        9..18 => payloads_case(i),
+        18..27 => kinds_case(i),
+        _ => sums_case(i),
     }
-    if i < 18 {
-        return payloads_case(i);
-    }
-    if i < 27 {
-        return kinds_case(i);
-    }
-    sums_case(i)
 }
 
 // The `i`-th term: it names a wire below the count, with shifts that there are.
@@ -259,13 +196,12 @@ fn term_at(i: usize, wires: usize) -> u64
     )
 }
 
+// Kept: three functions that fill a store: one over a closure is no plainer, its clause would name what the closure gives.
 fn fill_terms(store: &mut [u64], wires: usize)
     ensures { store.new ≡ made_from (term_made wires) 0 (length store.old) }
 {
-    let mut i = 0;
-    while i < store.len() {
+    for i in 0..store.len() {
         store[i] = term_at(i, wires);
-        i = i + 1;
     }
 }
 
@@ -283,10 +219,8 @@ fn operand_at(i: usize, len: usize) -> u64
 fn fill_operands(store: &mut [u64], len: usize)
     ensures { store.new ≡ made_from (operand_made len) 0 (length store.old) }
 {
-    let mut i = 0;
-    while i < store.len() {
+    for i in 0..store.len() {
         store[i] = operand_at(i, len);
-        i = i + 1;
     }
 }
 
@@ -302,10 +236,8 @@ fn wire_at(i: usize, wires: usize) -> u16
 fn fill_wires(store: &mut [u16], wires: usize)
     ensures { store.new ≡ made_from (wire_made wires) 0 (length store.old) }
 {
-    let mut i = 0;
-    while i < store.len() {
+    for i in 0..store.len() {
         store[i] = wire_at(i, wires);
-        i = i + 1;
     }
 }
 
@@ -333,30 +265,9 @@ fn fill(
     fill_operands(rhss, side);
 }
 
-// The number that writing the system gives, or 0; and how many bytes were written.
-#[derive(Clone, Copy)]
-struct Made {
-    number: usize,
-    length: usize,
-}
-
-fn by_answer(w: Written) -> Made
-    ensures { result ≡ made_by w }
-{
-    match w {
-        Written::Done { length } => Made {
-            number: 0,
-            length: length,
-        },
-        Written::Refused { number } => Made {
-            number: number as usize,
-            length: 0,
-        },
-    }
-}
-
-fn make(c: Case, out: &mut [u8]) -> Made
-    ensures { IsMade c out.old result out.new }
+// The system of a case written: how many bytes, or the refusal.
+fn make(c: Case, out: &mut [u8]) -> Result<usize, Refusal>
+    ensures { WriteIs c.sizes (made_stores c) out.old result out.new }
 {
     let mut terms = [0u64; 11264];
     let mut ands = [0u64; 3075];
@@ -368,17 +279,20 @@ fn make(c: Case, out: &mut [u8]) -> Made
     fill(
         c, &mut terms, &mut ands, &mut imuls, &mut bmuls, &mut zeros, &mut dsts, &mut rhss,
     );
-    by_answer(pass::store(
-        &terms, &ands, &imuls, &bmuls, &zeros, &dsts, &rhss, c.sizes, out,
-    ))
-}
-
-fn put(file: &mut [u8], at: usize, v: u8)
-    ensures { file.new ≡ slice_set file.old at v }
-{
-    if at < file.len() {
-        file[at] = v;
-    }
+    let system = LentSystem {
+        stores: TermStores {
+            old: &terms,
+            new: &[],
+        },
+        ands: &ands,
+        imuls: &imuls,
+        bmuls: &bmuls,
+        zeros: &zeros,
+        dsts: &dsts,
+        rhss: &rhss,
+        sizes: c.sizes,
+    };
+    house::write(&system, out)
 }
 
 // Puts the first `n` bytes of the records in once more, before the end field. The length then.
@@ -395,15 +309,13 @@ fn grow(file: &mut [u8], end: usize, n: usize) -> usize {
     if end - 8 < n {
         return end;
     }
-    let mut i = 0;
-    while i < n {
+    for i in 0..n {
         let v = file[5 + i];
-        put(&mut *file, end - 3 + i, v);
-        i = i + 1;
+        house_file::put(&mut *file, end - 3 + i, v);
     }
-    put(&mut *file, end + n - 3, 7);
-    put(&mut *file, end + n - 2, 0);
-    put(&mut *file, end + n - 1, 0);
+    house_file::put(&mut *file, end + n - 3, 7);
+    house_file::put(&mut *file, end + n - 2, 0);
+    house_file::put(&mut *file, end + n - 1, 0);
     end + n
 }
 
@@ -415,8 +327,7 @@ fn cut_field(file: &[u8], end: usize) -> usize
         return 0;
     }
     let mut at = 0;
-    let mut left = end;
-    while 0 < left {
+    for _ in 0..end {
         if end < at + 3 {
             return at;
         }
@@ -425,7 +336,6 @@ fn cut_field(file: &[u8], end: usize) -> usize
             return at;
         }
         at = next;
-        left = left - 1;
     }
     at
 }
@@ -433,15 +343,16 @@ fn cut_field(file: &[u8], end: usize) -> usize
 // The file cut at each byte.
 fn cuts(file: &[u8], n: usize, two: &mut [u8], first: Tally) -> Tally {
     let mut t = first;
-    let mut end = 0;
     if file.len() < n {
-        return tally::count(t, false);
+        return t.count(false);
     }
-    while end < n {
-        let k = end;
-        end = end + 1;
-        let seen = pass::pass(&file[0..k], &mut *two);
-        t = tally::count(t, pass::same(seen, pass::refused(1, cut_field(file, k))));
+    for end in 0..n {
+        let seen = pass::pass(&file[..end], &mut *two);
+        let asked = pass::refused(FileFault {
+            refusal: Refusal::Cut,
+            at: cut_field(file, end),
+        });
+        t = t.count(pass::same(seen, asked));
     }
     t
 }
@@ -449,17 +360,23 @@ fn cuts(file: &[u8], n: usize, two: &mut [u8], first: Tally) -> Tally {
 // What reading gives to the file of the case, `n` bytes at the front of `one`.
 fn reads(c: Case, one: &[u8], n: usize, two: &mut [u8], t: Tally) -> Tally {
     if one.len() < n {
-        return tally::count(t, false);
+        return t.count(false);
     }
-    let seen = pass::pass(&one[0..n], &mut *two);
-    let told = tally::answer(t, seen);
-    if c.number == 0 {
-        return pass::again(seen, one, two, tally::count(told, seen.length == n));
+    let seen = pass::pass(&one[..n], &mut *two);
+    let told = t.answer(seen);
+    match c.outcome {
+        Outcome::Over { grow: _, back } => {
+            if n < back {
+                return told.count(false);
+            }
+            let asked = pass::refused(FileFault {
+                refusal: Refusal::Full,
+                at: n - back,
+            });
+            told.count(pass::same(seen, asked))
+        }
+        _ => pass::again(seen, one, two, told.count(seen.length == n)),
     }
-    if n < c.back {
-        return tally::count(told, false);
-    }
-    tally::count(told, pass::same(seen, pass::refused(c.number, n - c.back)))
 }
 
 // A byte less than the file needs is too few.
@@ -468,35 +385,45 @@ fn short(c: Case, n: usize, two: &mut [u8], t: Tally) -> Tally {
         return t;
     }
     if two.len() < n {
-        return tally::count(t, false);
+        return t.count(false);
     }
-    let m = make(c, &mut two[0..n - 1]);
-    tally::count(t, m.number == 12)
+    let written = make(c, &mut two[..n - 1]);
+    t.count(written == Err(Refusal::Room))
+}
+
+// Whether writing came to what it has to.
+fn is_written(c: Case, written: Result<usize, Refusal>) -> bool {
+    match c.outcome {
+        Outcome::Unwritten(refusal) => written == Err(refusal),
+        _ => written.is_ok(),
+    }
 }
 
 fn one_case(c: Case, one: &mut [u8], two: &mut [u8], t: Tally) -> Tally {
-    let m = make(c, &mut *one);
-    let told = tally::count(t, m.number == c.written);
-    if m.number != 0 {
+    let written = make(c, &mut *one);
+    let told = t.count(is_written(c, written));
+    let Ok(length) = written else {
         return told;
-    }
-    let tried = short(c, m.length, &mut *two, told);
-    let n = grow(&mut *one, m.length, c.grow);
+    };
+    let tried = short(c, length, &mut *two, told);
+    let more = match c.outcome {
+        Outcome::Over { grow, back: _ } => grow,
+        _ => 0,
+    };
+    let n = grow(&mut *one, length, more);
     reads(c, &*one, n, &mut *two, tried)
 }
 
 // The small file, cut.
 fn small(one: &mut [u8], two: &mut [u8], t: Tally) -> Tally {
-    let m = make(limit_at(0), &mut *one);
-    cuts(&*one, m.length, &mut *two, t)
+    let n = make(limit_at(0), &mut *one).unwrap_or(0);
+    cuts(&*one, n, &mut *two, t)
 }
 
 pub fn limits(first: Tally, one: &mut [u8], two: &mut [u8]) -> Tally {
     let mut t = small(&mut *one, &mut *two, first);
-    let mut i = 0;
-    while i < CASES {
+    for i in 0..CASES {
         t = one_case(limit_at(i), &mut *one, &mut *two, t);
-        i = i + 1;
     }
     t
 }

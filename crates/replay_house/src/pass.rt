@@ -1,17 +1,16 @@
 // A file read, and what was read written.
-ghost use Rattle.std.specs.Prelude.{◌≡◌, ◌≤◌, [], length};
-ghost use Rattle.replay_house.specs.Replay.{refused_seen, done_seen, written_seen, same_counts, same_seen, same_bytes, Passed, pass_bytes, compared_tally, state_of, again_of};
-ghost use Rattle.lower.specs.Stores.{stores};
-ghost use Rattle.house_write.specs.Write.{WriteIs};
+ghost use Rattle.std.specs.Prelude.{◌≡◌, ◌≤◌, length};
+ghost use Rattle.refusal.specs.Refusals.{number_of};
+ghost use Rattle.replay_house.specs.Replay.{refused_seen, done_seen, written_seen, same_seen, Passed, pass_bytes, compared_tally, state_of, again_of};
 
-use crate::tally;
 use crate::tally::Tally;
-use house_file::Read;
-use house_write::Written;
-use lower::Sizes;
+use house_file::{FileFault, FileRead};
+use lower::LentSystem;
+use operand::TermStores;
+use refusal::Refusal;
 
 // What reading and then writing came to: number and offset of the reader's refusal, or the counts; number of the writer's, or the length.
-#[derive(Clone, Copy)]
+#[derive(Clone, Copy, Debug, PartialEq, Eq)]
 pub struct Seen {
     pub number: usize,
     pub at: usize,
@@ -26,12 +25,12 @@ pub struct Seen {
     pub length: usize,
 }
 
-pub fn refused(number: usize, at: usize) -> Seen
-    ensures { result ≡ refused_seen number at }
+pub fn refused(fault: FileFault) -> Seen
+    ensures { result ≡ refused_seen (number_of fault.refusal) fault.at }
 {
     Seen {
-        number: number,
-        at: at,
+        number: fault.refusal.number() as usize,
+        at: fault.at,
         wires: 0,
         ands: 0,
         imuls: 0,
@@ -44,15 +43,10 @@ pub fn refused(number: usize, at: usize) -> Seen
     }
 }
 
-pub fn nothing() -> Seen
-    ensures { result ≡ refused_seen 255 0 }
+fn done(read: FileRead, written: usize, length: usize) -> Seen
+    ensures { result ≡ done_seen read written length }
 {
-    refused(255, 0)
-}
-
-fn done(z: Sizes, terms: usize, written: usize, length: usize) -> Seen
-    ensures { result ≡ done_seen z terms written length }
-{
+    let z = read.sizes;
     Seen {
         number: 0,
         at: 0,
@@ -62,89 +56,26 @@ fn done(z: Sizes, terms: usize, written: usize, length: usize) -> Seen
         bmuls: z.bmuls,
         zeros: z.zeros,
         linears: z.linears,
-        terms: terms,
-        written: written,
-        length: length,
+        terms: read.terms,
+        written,
+        length,
     }
 }
 
-fn same_counts(a: Seen, b: Seen) -> bool
-    ensures { result ≡ same_counts a b }
-{
-    if a.wires != b.wires {
-        return false;
-    }
-    if a.ands != b.ands {
-        return false;
-    }
-    if a.imuls != b.imuls {
-        return false;
-    }
-    if a.bmuls != b.bmuls {
-        return false;
-    }
-    if a.zeros != b.zeros {
-        return false;
-    }
-    a.linears == b.linears
-}
-
+#[tactic(auto, unfolding(crate::specs::Replay::same_seen))]
 pub fn same(a: Seen, b: Seen) -> bool
     ensures { result ≡ same_seen a b }
 {
-    if a.number != b.number {
-        return false;
-    }
-    if a.at != b.at {
-        return false;
-    }
-    if a.terms != b.terms {
-        return false;
-    }
-    if a.written != b.written {
-        return false;
-    }
-    if a.length != b.length {
-        return false;
-    }
-    same_counts(a, b)
+    a == b
 }
 
-fn written(z: Sizes, terms: usize, w: Written) -> Seen
-    ensures { result ≡ written_seen z terms w }
+fn written(read: FileRead, answer: Result<usize, Refusal>) -> Seen
+    ensures { result ≡ written_seen read answer }
 {
-    match w {
-        Written::Done { length } => done(z, terms, 0, length),
-        Written::Refused { number } => done(z, terms, number as usize, 0),
+    match answer {
+        Ok(length) => done(read, 0, length),
+        Err(refusal) => done(read, refusal.number() as usize, 0),
     }
-}
-
-// The system that stands in the old store.
-pub fn store(
-    terms: &[u64],
-    ands: &[u64],
-    imuls: &[u64],
-    bmuls: &[u64],
-    zeros: &[u64],
-    dsts: &[u16],
-    rhss: &[u64],
-    z: Sizes,
-    out: &mut [u8],
-) -> Written
-    ensures { WriteIs z (stores terms.now [] ands.now imuls.now bmuls.now zeros.now dsts.now rhss.now) out.old result out.new }
-{
-    house::write(
-        terms,
-        &terms[0..0],
-        ands,
-        imuls,
-        bmuls,
-        zeros,
-        dsts,
-        rhss,
-        z,
-        out,
-    )
 }
 
 pub fn pass(file: &[u8], out: &mut [u8]) -> Seen
@@ -161,33 +92,24 @@ pub fn pass(file: &[u8], out: &mut [u8]) -> Seen
         file, &mut terms, &mut ands, &mut imuls, &mut bmuls, &mut zeros, &mut dsts, &mut rhss,
     );
     match r {
-        Read::Refused { number, at } => refused(number as usize, at),
-        Read::Done {
-            sizes,
-            terms: count,
-        } => {
-            let w = store(
-                &terms, &ands, &imuls, &bmuls, &zeros, &dsts, &rhss, sizes, out,
-            );
-            written(sizes, count, w)
+        Err(fault) => refused(fault),
+        Ok(read) => {
+            let system = LentSystem {
+                stores: TermStores {
+                    old: &terms,
+                    new: &[],
+                },
+                ands: &ands,
+                imuls: &imuls,
+                bmuls: &bmuls,
+                zeros: &zeros,
+                dsts: &dsts,
+                rhss: &rhss,
+                sizes: read.sizes,
+            };
+            written(read, house::write(&system, out))
         }
     }
-}
-
-fn equal(a: &[u8], b: &[u8]) -> bool
-    ensures { result ≡ same_bytes a.now b.now }
-{
-    if a.len() != b.len() {
-        return false;
-    }
-    let mut i = 0;
-    while i < a.len() {
-        if a[i] != b[i] {
-            return false;
-        }
-        i = i + 1;
-    }
-    true
 }
 
 // Reading and writing a file once more: what was seen is seen again, and what is written is the file.
@@ -197,8 +119,8 @@ fn compared(seen: Seen, file: &[u8], two: &mut [u8], t: Tally) -> Tally
 {
     let n = file.len();
     let is_same = same(seen, pass(file, &mut *two));
-    let is_equal = equal(file, &two[0..n]);
-    tally::bytes(tally::count(tally::count(t, is_same), is_equal), file)
+    let is_equal = replaying::same(file, &two[..n], 0);
+    t.count(is_same).count(is_equal).bytes(file)
 }
 
 // The file at the front of `one` was written after `seen`.
@@ -207,10 +129,10 @@ pub fn again(seen: Seen, one: &[u8], two: &mut [u8], t: Tally) -> Tally
 {
     let n = seen.length;
     if one.len() < n {
-        return tally::count(t, false);
+        return t.count(false);
     }
     if two.len() < n {
-        return tally::count(t, false);
+        return t.count(false);
     }
-    compared(seen, &one[0..n], two, t)
+    compared(seen, &one[..n], two, t)
 }

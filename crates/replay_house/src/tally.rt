@@ -1,6 +1,6 @@
 // Checks counted, and a digest of what was read.
 ghost use Rattle.std.specs.Prelude.{◌≡◌};
-ghost use Rattle.replay_house.specs.Replay.{counted, mixed_of, with_number, with_bytes};
+ghost use Rattle.replay_house.specs.Replay.{counted, with_number, with_bytes};
 
 use crate::pass::Seen;
 
@@ -11,58 +11,47 @@ pub struct Tally {
     pub digest: u64,
 }
 
-pub fn count(t: Tally, right: bool) -> Tally
-    ensures { result ≡ counted t right }
-{
-    if right {
-        return Tally {
-            right: std::num::wrapping_add_u64(t.right, 1),
-            wrong: t.wrong,
-            digest: t.digest,
-        };
+impl Tally {
+    // One check more.
+    pub fn count(self, right: bool) -> Tally
+        ensures { result ≡ counted self right }
+    {
+        if right {
+            Tally {
+                right: self.right.wrapping_add(1),
+                ..self
+            }
+        } else {
+            Tally {
+                wrong: self.wrong.wrapping_add(1),
+                ..self
+            }
+        }
     }
-    Tally {
-        right: t.right,
-        wrong: std::num::wrapping_add_u64(t.wrong, 1),
-        digest: t.digest,
+
+    fn with(self, n: u64) -> Tally
+        ensures { result ≡ with_number self n }
+    {
+        Tally {
+            digest: replaying::mix(self.digest, n),
+            ..self
+        }
     }
-}
 
-pub fn mixed(digest: u64, n: u64) -> u64
-    ensures { result ≡ mixed_of digest n }
-{
-    (digest % 1000000007 * 31 + n % 1000000007) % 1000000007
-}
-
-fn with(t: Tally, n: u64) -> Tally
-    ensures { result ≡ with_number t n }
-{
-    Tally {
-        right: t.right,
-        wrong: t.wrong,
-        digest: mixed(t.digest, n),
+    // The reader's answer.
+    pub fn answer(self, seen: Seen) -> Tally
+        ensures { result ≡ with_number (with_number self seen.number) seen.at }
+    {
+        self.with(seen.number as u64).with(seen.at as u64)
     }
-}
 
-pub fn answer(t: Tally, seen: Seen) -> Tally
-    ensures { result ≡ with_number (with_number t seen.number) seen.at }
-{
-    with(with(t, seen.number as u64), seen.at as u64)
-}
-
-// All bytes of a file.
-pub fn bytes(t: Tally, file: &[u8]) -> Tally
-    ensures { result ≡ with_bytes t file.now }
-{
-    let mut digest = t.digest;
-    let mut i = 0;
-    while i < file.len() {
-        digest = mixed(digest, house_file::byte(file, i) as u64);
-        i = i + 1;
-    }
-    Tally {
-        right: t.right,
-        wrong: t.wrong,
-        digest: digest,
+    // All bytes of a file.
+    pub fn bytes(self, file: &[u8]) -> Tally
+        ensures { result ≡ with_bytes self file.now }
+    {
+        Tally {
+            digest: replaying::digest(file, self.digest),
+            ..self
+        }
     }
 }

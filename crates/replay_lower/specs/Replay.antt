@@ -21,10 +21,10 @@ word_at b i =
     + 1099511627776 * slice_index b (8 * i + 5) + 281474976710656 * slice_index b (8 * i + 6) + 72057594037927936 * slice_index b (8 * i + 7))
     0
 
-abbrev pub part_of : List ℕ → ℕ → ℕ → List ℕ
+abbrev pub part_of : {A : Type 0} → List A → ℕ → ℕ → List A
 part_of l begin end = cond (nat_le begin end && nat_le end (length l)) (slice_range l begin end) []
 
-unfoldable pub store_at : List ℕ → List ℕ → ℕ → List ℕ
+unfoldable pub store_at : {A : Type 0} → List ℕ → List A → ℕ → List A
 store_at m l i = part_of l (slice_index m i) (slice_index m (i + 1))
 
 unfoldable pub sizes_at : List ℕ → Sizes

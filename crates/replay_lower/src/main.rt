@@ -6,12 +6,12 @@
 // The destinations are an array of their own.
 #![tactic(auto)]
 
-ghost use Rattle.std.specs.Prelude.{◌≡◌, ◌/◌, ◌<◌, ◌≤◌, IfOk, length, slice_index, slice_set};
+ghost use Rattle.std.specs.Prelude.{◌≡◌, ◌/◌, ◌<◌, length, slice_index, slice_set};
 ghost use Rattle.replay_lower.specs.Replay.{word_at, part_of, store_at, sizes_at, checked_at, counted, state_of, step_of, after};
 
-use lower::Sizes;
+use lower::{LentSystem, Sizes};
+use operand::TermStores;
 use std::io;
-use std::io::Read;
 
 #[derive(Clone, Copy)]
 struct Tally {
@@ -24,49 +24,25 @@ struct Tally {
 fn get(memory: &[u64], i: usize) -> u64
     ensures { result ≡ slice_index memory.now i }
 {
-    if i < memory.len() {
-        return memory[i];
-    }
-    0
+    memory.get(i).copied().unwrap_or(0)
 }
 
-// A part of the memory; empty where it is none.
-fn part<'a>(memory: &'a [u64], begin: u64, end: u64) -> &'a [u64]
-    ensures { result.now ≡ part_of memory.now begin end }
+// A part of a store; empty where it is none.
+fn part<T>(store: &[T], begin: u64, end: u64) -> &[T]
+    ensures { result.now ≡ part_of store.now begin end }
 {
-    let b = begin as usize;
-    let e = end as usize;
-    if e < b {
-        return &memory[0..0];
-    }
-    if memory.len() < e {
-        return &memory[0..0];
-    }
-    &memory[b..e]
+    store.get(begin as usize..end as usize).unwrap_or(&[])
 }
 
-// The store whose two places are `i` and `i + 1`.
-fn store<'a>(memory: &'a [u64], i: u16) -> &'a [u64]
-    ensures { result.now ≡ store_at memory.now memory.now i }
+// The part of `places` that begins and ends where the memory says, at `i` and `i + 1`.
+#[tactic(auto, unfolding(crate::specs::Replay::store_at))]
+fn store<'a, T>(memory: &[u64], places: &'a [T], i: u16) -> &'a [T]
+    ensures { result.now ≡ store_at memory.now places.now i }
 {
-    part(memory, get(memory, i as usize), get(memory, i as usize + 1))
+    part(places, get(memory, i as usize), get(memory, i as usize + 1))
 }
 
-// The same of the destinations.
-fn destinations<'a>(dsts: &'a [u16], begin: u64, end: u64) -> &'a [u16]
-    ensures { result.now ≡ part_of dsts.now begin end }
-{
-    let b = begin as usize;
-    let e = end as usize;
-    if e < b {
-        return &dsts[0..0];
-    }
-    if dsts.len() < e {
-        return &dsts[0..0];
-    }
-    &dsts[b..e]
-}
-
+#[tactic(auto, unfolding(crate::specs::Replay::sizes_at))]
 fn sizes(memory: &[u64]) -> Sizes
     ensures { result ≡ sizes_at memory.now }
 {
@@ -80,21 +56,27 @@ fn sizes(memory: &[u64]) -> Sizes
     }
 }
 
-fn run<'a>(memory: &'a [u64], dsts: &[u16]) -> u8
+// The number of the refusal, 0 for none.
+fn run(memory: &[u64], dsts: &[u16]) -> u8
     ensures { result ≡ checked_at memory.now dsts.now }
 {
-    lower::check_all(
-        store(memory, 7),
-        store(memory, 9),
-        store(memory, 11),
-        store(memory, 13),
-        store(memory, 15),
-        store(memory, 17),
-        destinations(dsts, get(memory, 19), get(memory, 20)),
-        store(memory, 21),
-        sizes(memory),
-        get(memory, 0),
-    )
+    let system = LentSystem {
+        stores: TermStores {
+            old: store(memory, memory, 7),
+            new: store(memory, memory, 9),
+        },
+        ands: store(memory, memory, 11),
+        imuls: store(memory, memory, 13),
+        bmuls: store(memory, memory, 15),
+        zeros: store(memory, memory, 17),
+        dsts: store(memory, dsts, 19),
+        rhss: store(memory, memory, 21),
+        sizes: sizes(memory),
+    };
+    match system.check_all(get(memory, 0)) {
+        Ok(()) => 0,
+        Err(refusal) => refusal.number(),
+    }
 }
 
 fn count(t: Tally, answer: u8, expected: u64) -> Tally
@@ -103,15 +85,15 @@ fn count(t: Tally, answer: u8, expected: u64) -> Tally
     let digest = (t.digest % 1000000007 * 31 + answer as u64) % 1000000007;
     if answer as u64 == expected {
         return Tally {
-            right: std::num::wrapping_add_u64(t.right, 1),
-            wrong: t.wrong,
+            right: t.right.wrapping_add(1),
             digest,
+            ..t
         };
     }
     Tally {
-        right: t.right,
-        wrong: std::num::wrapping_add_u64(t.wrong, 1),
+        wrong: t.wrong.wrapping_add(1),
         digest,
+        ..t
     }
 }
 
@@ -142,19 +124,12 @@ fn word(input: &[u8], i: usize) -> u64
         + 72057594037927936 * byte(input, at + 7)
 }
 
-fn put(memory: &mut [u64], i: usize, number: u64)
-    ensures { memory.new ≡ slice_set memory.old i number }
+// A place past the end takes nothing.
+fn put<T: Copy>(store: &mut [T], i: usize, number: T)
+    ensures { store.new ≡ slice_set store.old i number }
 {
-    if i < memory.len() {
-        memory[i] = number;
-    }
-}
-
-fn put_destination(dsts: &mut [u16], i: usize, number: u16)
-    ensures { dsts.new ≡ slice_set dsts.old i number }
-{
-    if i < dsts.len() {
-        dsts[i] = number;
+    if i < store.len() {
+        store[i] = number;
     }
 }
 
@@ -163,16 +138,12 @@ fn step(memory: &mut [u64], dsts: &mut [u16], place: u64, number: u64, t: Tally)
     ensures { state_of memory.new dsts.new result ≡ step_of (state_of memory.old dsts.old t) place number }
 {
     let i = (place % 65536) as usize;
-    let kind = place / 65536;
-    if kind == 0 {
-        put(&mut *memory, i, number);
-        return t;
+    match place / 65536 {
+        0 => put(&mut *memory, i, number),
+        1 => put(&mut *dsts, i, (number % 65536) as u16),
+        _ => return count(t, run(&*memory, &*dsts), number),
     }
-    if kind == 1 {
-        put_destination(&mut *dsts, i, (number % 65536) as u16);
-        return t;
-    }
-    count(t, run(&*memory, &*dsts), number)
+    t
 }
 
 fn replay(input: &[u8]) -> Tally
@@ -185,8 +156,7 @@ fn replay(input: &[u8]) -> Tally
         wrong: 0,
         digest: 0,
     };
-    let mut i = 0;
-    while i < input.len() / 16 {
+    for i in 0..input.len() / 16 {
         t = step(
             &mut memory,
             &mut dsts,
@@ -194,32 +164,13 @@ fn replay(input: &[u8]) -> Tally
             word(input, 2 * i + 1),
             t,
         );
-        i += 1;
     }
     t
 }
 
-// Reads until `buf` is full or the input ends, and returns how many bytes it put at the start of `buf`.
-fn read_full<R: Read>(reader: &mut R, buf: &mut [u8]) -> io::Result<usize>
-    ensures { IfOk result (λ n. n ≤ length buf.new) }
-{
-    let mut done = 0;
-    while done < buf.len() {
-        let n = reader.read(&mut buf[done..])?;
-        if n == 0 {
-            break;
-        }
-        done += n;
-    }
-    Ok(done)
-}
-
 fn main(rt: HostRuntime) -> io::Result<()> {
     let mut input = [0u8; 262144];
-    let n = read_full(&mut rt.stdin(), &mut input)?;
-    if 262144 < n {
-        return Ok(());
-    }
-    let t = replay(&input[0..n]);
+    let n = streams::read_full(&mut rt.stdin(), &mut input)?;
+    let t = replay(&input[..n]);
     println!(rt; "right {} wrong {} digest {}", t.right, t.wrong, t.digest)
 }

@@ -1,4 +1,3 @@
 -- Modules that belong to no one function.
 pub mod Turns
-pub mod Parts
 pub mod Calls

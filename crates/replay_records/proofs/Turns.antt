@@ -1,7 +1,7 @@
 -- Turns, one after the other. Assumes nothing.
 use Rattle.std.proofs.Common.{◌≡◌, ℕ, suc, ◌+◌, List, get_or, set, sym, refl, ap, ◌∙◌, add-one}
 use Rattle.records.specs.declared.Definition.{Definition}
-use Rattle.replay_records.specs.Places.{turns, same_of, same_bytes, count_from, mixed, digest_of}
+use Rattle.replay_records.specs.Places.{turns}
 use Rattle.replay_records.specs.Words.{word_at, made_words, holds_of, holding_of}
 
 pub turns-none : (A : Type 0) (f : ℕ → A → A) (s : A) → s ≡ turns A f 0 s
@@ -14,17 +14,6 @@ turns-suc A f i s = refl
 
 turns_next : (A : Type 0) (f : ℕ → A → A) (i : ℕ) (s x y : A) → x ≡ turns A f i s → y ≡ f i x → y ≡ turns A f (i + 1) s
 turns_next A f i s x y p q = q ∙ ap (f i) p ∙ sym (turns-suc A f i s) ∙ ap (λ (n : ℕ). turns A f n s) (sym (add-one i))
-
-pub count_next : (l : List ℕ) (v from i w x s : ℕ) → w ≡ get_or l (from + i) 0 → x ≡ count_from l v from i → s ≡ same_of w v → x + s ≡ count_from l v from (i + 1)
-count_next l v from i w x s p h r =
-    turns_next ℕ (λ i c. c + same_of (get_or l (from + i) 0) v) i 0 x (x + s) h (ap (λ (k : ℕ). x + k) (rw (← p) r))
-
-pub digest_next : (l : List ℕ) (start i w x y : ℕ) → w ≡ get_or l i 0 → x ≡ digest_of l i start → y ≡ mixed x w → y ≡ digest_of l (i + 1) start
-digest_next l start i w x y p h r = turns_next ℕ (λ i d. mixed d (get_or l i 0)) i start x y h (rw (← p) r)
-
-pub bytes_next : (a b : List ℕ) (i v w x s : ℕ) → v ≡ get_or a i 0 → w ≡ get_or b i 0 → x ≡ same_bytes a b i → s ≡ same_of v w → x + s ≡ same_bytes a b (i + 1)
-bytes_next a b i v w x s p q h r =
-    turns_next ℕ (λ i c. c + same_of (get_or a i 0) (get_or b i 0)) i 0 x (x + s) h (ap (λ (k : ℕ). x + k) (rw (← p, ← q) r))
 
 pub make_next : (i w : ℕ) (words l : List ℕ) → w ≡ word_at i → l ≡ made_words i words → set l i w ≡ made_words (i + 1) words
 make_next i w words l p h = turns_next (List ℕ) (λ i l. set l i (word_at i)) i words l (set l i w) h (ap (λ (k : ℕ). set l i k) p)

@@ -9,14 +9,13 @@
 -- What is lent to fusing is a function of the records, or of the result store, the flags and the records, where those are not yet made.
 --
 -- Assumes nothing.
-use Rattle.std.specs.Prelude.{ℕ, ◌+◌, false, List, take, replicate}
+use Rattle.std.specs.Prelude.{ℕ, ◌+◌, false, min, List, take, replicate, Result, Ok, Err}
+use Rattle.refusal.specs.declared.Refusal.{Refusal}
 use Rattle.lower.specs.declared.Sizes.{Sizes}
-use Rattle.house_file.specs.declared.Read.{Read}
-use Rattle.house_file.specs.declared.Read.TheVariants.{Refused, Done}
-use Rattle.house_write.specs.declared.Written.{Written}
+use Rattle.house_file.specs.declared.FileRead.{FileRead}
+use Rattle.house_file.specs.declared.FileFault.{FileFault}
 use Rattle.house_write.specs.Write.{WriteIs}
-use Rattle.fusion.specs.declared.Fused.{Fused}
-use Rattle.fusion.specs.declared.Fused.TheVariants as F
+use Rattle.fusion.specs.declared.Counts.{Counts}
 use Rattle.fusion.specs.Left.{Lent, output}
 use Rattle.fusion.specs.Answer.{told_fused, Fuses}
 use Rattle.records.specs.declared.Definition.{Definition}
@@ -24,13 +23,13 @@ use Rattle.records.specs.Records.{lent_by}
 use Rattle.replay_records.specs.declared.judge.Told.{Told}
 use Rattle.replay_records.specs.declared.judge.Seen.{Seen}
 use Rattle.replay_records.specs.declared.lend.Loaded.{Loaded}
-use Rattle.replay_records.specs.Places.{least_of, UNTOUCHED}
+use Rattle.replaying.specs.Places.{UNTOUCHED}
 use Rattle.replay_records.specs.Words.{rows_of, ReadIn}
 use Rattle.replay_records.specs.Judged.{file_of, refusal_seen, Judged}
 
-abbrev pub sizes_after : Sizes → Fused → Sizes
-sizes_after z (F.Refused number) = z
-sizes_after z (F.Done k) =
+abbrev pub sizes_after : Sizes → Result Counts Refusal → Sizes
+sizes_after z (Err _) = z
+sizes_after z (Ok k) =
     record {
       wires = z.wires;
       ands = z.ands;
@@ -43,8 +42,8 @@ sizes_after z (F.Done k) =
 module _ (slots : ℕ) (file : List ℕ) (told : Told) (result : List ℕ) (digest : ℕ) where
   pub record FusedIn (z : Sizes) (l : Lent) (left : List Definition → Lent) (out out' : List ℕ) (r : Seen) : Type 0 where
     pub defs : List Definition
-    pub answer : Fused
-    pub written : Written
+    pub answer : Result Counts Refusal
+    pub written : Result ℕ Refusal
     pub fuses : Fuses slots z l (left defs) (told_fused answer)
     pub writes : WriteIs (sizes_after z answer) (output (left defs)) out written out'
     pub judged : Judged told file (left defs).new (left defs).flags (file_of written out') result digest answer r
@@ -54,11 +53,11 @@ module _ (slots : ℕ) (file : List ℕ) (told : Told) (result : List ℕ) (dige
       pub new : List ℕ
       pub flags : List ℕ
       pub out : List ℕ
-      pub fused : FusedIn z (l (take (least_of room 16384) (replicate 16384 UNTOUCHED)) (take (least_of z.wires 4096) (replicate 4096 UNTOUCHED))) (left new flags) (replicate 65536 0) out r
+      pub fused : FusedIn z (l (take (min room 16384) (replicate 16384 UNTOUCHED)) (take (min z.wires 4096) (replicate 4096 UNTOUCHED))) (left new flags) (replicate 65536 0) out r
 
-    pub data FromRead : Read → Seen → Type 0 where
-      unread : {number at : ℕ} → FromRead (Refused number at) (refusal_seen false digest)
-      read : {z : Sizes} {terms : ℕ} {r : Seen} → InRoom z r → FromRead (Done z terms) r
+    pub data FromRead : Result FileRead FileFault → Seen → Type 0 where
+      unread : {f : FileFault} → FromRead (Err f) (refusal_seen false digest)
+      read : {a : FileRead} {r : Seen} → InRoom a.sizes r → FromRead (Ok a) r
 
 pub record Attempt (file : List ℕ) (slots room : ℕ) (told : Told) (result : List ℕ) (digest : ℕ) (r : Seen) : Type 0 where
   pub loaded : Loaded

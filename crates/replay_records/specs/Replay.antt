@@ -1,26 +1,21 @@
 -- The replay of fusing over records: what the bytes of fuse.bin come to.
 --
---   number_at b at       a number of four bytes, the low one first
 --   vector_at b at       the vector that begins at `at`: where its house file and its result stand, its slots and its room
 --   told_at b at to      what it tells: the refusal behind the slots and the room at `at`, the counts from `to` on
 --   VectorReplayed      one vector, counted
 --   Replayed b at t     t is counted of the vectors before `at`
 --
 -- Assumes nothing.
-use Rattle.std.specs.Prelude.{◌≡◌, ℕ, ◌+◌, ◌*◌, ◌<◌, ◌≤◌, List, length}
-use Rattle.house_file.specs.Decoding.{u16_at}
+use Rattle.std.specs.Prelude.{◌≡◌, ℕ, ◌+◌, ◌<◌, ◌≤◌, List, length}
 use Rattle.replay_records.specs.declared.Vector.{Vector}
 use Rattle.replay_records.specs.declared.judge.Told.{Told}
 use Rattle.replay_records.specs.declared.judge.Seen.{Seen}
 use Rattle.replay_records.specs.declared.tally.Tally.{Tally}
-use Rattle.replay_records.specs.Places.{part_of}
+use Rattle.replaying.specs.Places.{number_at, part_of}
 use Rattle.replay_records.specs.Attempts.{Attempt}
 use Rattle.replay_records.specs.Tallies.{nothing_counted, vector_counted}
 
 -- ---- the bytes
-
-abbrev pub number_at : List ℕ → ℕ → ℕ
-number_at b at = u16_at b at + 65536 * u16_at b (at + 2)
 
 abbrev pub answer_at : List ℕ → ℕ → ℕ
 answer_at b at = at + 4 + number_at b at
@@ -44,11 +39,14 @@ unfoldable pub told_at : List ℕ → ℕ → ℕ → Told
 told_at b answer counts =
     record {
       refusal = number_at b (answer + 8);
-      gone = number_at b counts;
-      stranded = number_at b (counts + 4);
-      committed = number_at b (counts + 8);
-      written = number_at b (counts + 12);
-      kept = number_at b (counts + 16);
+      counts =
+          record {
+            gone = number_at b counts;
+            stranded = number_at b (counts + 4);
+            committed = number_at b (counts + 8);
+            written = number_at b (counts + 12);
+            kept = number_at b (counts + 16);
+          };
     }
 
 -- ---- the vectors

@@ -15,20 +15,20 @@
 -- What `fill_back` leaves is said by `FillsIs`, and what `evaluate` leaves by `EvaluateIs`.
 --
 -- Assumes nothing.
-use Rattle.std.specs.Prelude.{◌≡◌, ℕ, ◌+◌, ◌*◌, ◌%◌, cond, List, [], length, take, replicate, ◌==◌, slice_index, slice_index_or, slice_set}
+use Rattle.std.specs.Prelude.{◌≡◌, ℕ, ◌+◌, ◌*◌, ◌%◌, min, cond, List, [], length, take, replicate, ◌==◌, slice_index, slice_index_or, slice_set, Result, Ok, Err}
+use Rattle.refusal.specs.declared.Refusal.{Refusal}
 use Rattle.lower.specs.declared.Sizes.{Sizes}
 use Rattle.lower.specs.Stores.{Stores}
-use Rattle.house_file.specs.declared.Read.{Read}
-use Rattle.house_file.specs.declared.Read.TheVariants.{Refused, Done}
+use Rattle.house_file.specs.declared.FileRead.{FileRead}
+use Rattle.house_file.specs.declared.FileFault.{FileFault}
 use Rattle.house_read.specs.Answer.{ReadIs}
 use Rattle.fill_back.specs.Filling.{FillsIs}
-use Rattle.evaluate.specs.declared.Evaluated.{Evaluated}
-use Rattle.evaluate.specs.declared.Evaluated.TheVariants as E
 use Rattle.evaluate.specs.Evaluation.{EvaluateIs}
 use Rattle.records.specs.declared.Definition.{Definition}
 use Rattle.records.specs.Records.{dsts_of, rhss_of, stores_by}
 use Rattle.replay_records.specs.declared.lend.Loaded.{Loaded}
-use Rattle.replay_records.specs.Places.{least_of, turns, same_of, UNTOUCHED, blank_defs}
+use Rattle.replaying.specs.Places.{UNTOUCHED}
+use Rattle.replay_records.specs.Places.{turns, same_of, blank_defs}
 
 -- ---- the words
 
@@ -44,7 +44,7 @@ made_words n words = turns (List ℕ) (λ i l. slice_set l i (word_at i)) n word
 -- ---- the definitions that hold
 
 abbrev pub rows_of : ℕ → ℕ
-rows_of n = least_of n 1024
+rows_of n = min n 1024
 
 abbrev pub definitions_at : Sizes → ℕ
 definitions_at z = 3 * rows_of z.ands + 4 * rows_of z.imuls + 6 * rows_of z.bmuls + rows_of z.zeros
@@ -56,15 +56,15 @@ abbrev pub holding_of : List Definition → ℕ → List ℕ → ℕ → List �
 holding_of ds n values at flags words =
     turns ℕ (λ i c. c + holds_of (slice_index_or ds i (record { rhs = 0; dst = 0 })) (slice_index values (at + i)) flags words) n 0
 
-unfoldable pub counted_of : ℕ → Evaluated → List Definition → Sizes → List ℕ → List ℕ → List ℕ → ℕ
-counted_of filled (E.Refused number) ds z values flags words = 0
-counted_of filled (E.Done count) ds z values flags words = cond (filled == 0) (holding_of ds (rows_of z.linears) values (definitions_at z) flags words) 0
+unfoldable pub counted_of : ℕ → Result ℕ Refusal → List Definition → Sizes → List ℕ → List ℕ → List ℕ → ℕ
+counted_of filled (Err _) ds z values flags words = 0
+counted_of filled (Ok _) ds z values flags words = cond (filled == 0) (holding_of ds (rows_of z.linears) values (definitions_at z) flags words) 0
 
 -- ---- the calls
 
 pub record FilledIn (z : Sizes) (s : Stores) (ds : List Definition) (flags words values words' values' : List ℕ) (n : ℕ) : Type 0 where
   pub number : ℕ
-  pub answer : Evaluated
+  pub answer : Result ℕ Refusal
   pub fills : FillsIs z s flags (made_words (length words) words) words' number
   pub evaluates : EvaluateIs z s words' values answer values'
   pub counts : n ≡ counted_of number answer ds z values' flags words'
@@ -72,11 +72,11 @@ pub record FilledIn (z : Sizes) (s : Stores) (ds : List Definition) (flags words
 pub record WithWords (z : Sizes) (s : Stores) (ds : List Definition) (flags : List ℕ) (n : ℕ) : Type 0 where
   pub words : List ℕ
   pub values : List ℕ
-  pub filled : FilledIn z s ds flags (take (least_of z.wires 4096) (replicate 4096 0)) (replicate 7168 UNTOUCHED) words values n
+  pub filled : FilledIn z s ds flags (take (min z.wires 4096) (replicate 4096 0)) (replicate 7168 UNTOUCHED) words values n
 
-pub data FromRead (s : Stores) (ds : List Definition) (flags : List ℕ) : Read → ℕ → Type 0 where
-  unread : {number at : ℕ} → FromRead s ds flags (Refused number at) 0
-  read : {z : Sizes} {terms n : ℕ} → WithWords z s ds flags n → FromRead s ds flags (Done z terms) n
+pub data FromRead (s : Stores) (ds : List Definition) (flags : List ℕ) : Result FileRead FileFault → ℕ → Type 0 where
+  unread : {f : FileFault} → FromRead s ds flags (Err f) 0
+  read : {a : FileRead} {n : ℕ} → WithWords a.sizes s ds flags n → FromRead s ds flags (Ok a) n
 
 -- a file that is read into stores, and an array, that are made for it
 abbrev pub ReadIn : List ℕ → Loaded → List ℕ → List ℕ → List ℕ → List ℕ → List ℕ → Type 0

@@ -1,20 +1,29 @@
 // What one pass answered and left, against what was told.
 ghost use Rattle.std.specs.Prelude.{◌≡◌};
-ghost use Rattle.replay_records.specs.Judged.{counts_right, flags_right, holding_right, all_of, file_of, refusal_seen, done_seen, refusal_right_lem, DoneJudged, Judged};
+ghost use Rattle.refusal.specs.Refusals.{number_of};
+ghost use Rattle.replay_records.specs.Judged.{counts_right, flags_right, holding_right, file_of, refusal_seen, done_seen, refusal_right, DoneJudged, Judged};
 
-use crate::{places, words};
-use fusion::{Counts, Fused};
-use house_write::Written;
+use crate::words;
+use fusion::Counts;
+use refusal::Refusal;
 
-// What a vector tells of fusing.
+// What a vector tells of fusing: the number of a refusal, or 0 and the counts.
 #[derive(Clone, Copy)]
 pub struct Told {
     pub refusal: usize,
-    pub gone: usize,
-    pub stranded: usize,
-    pub committed: usize,
-    pub written: usize,
-    pub kept: usize,
+    pub counts: Counts,
+}
+
+// What is tried: a house file, with its slots and the room of the result store, what is told of it, the patched lists as a house file, and
+// the digest so far.
+#[derive(Clone, Copy)]
+pub struct Task<'a> {
+    pub file: &'a [u8],
+    pub slots: u64,
+    pub room: usize,
+    pub told: Told,
+    pub patched: &'a [u8],
+    pub digest: u64,
 }
 
 // Whether a vector was answered as told, and what goes to the sums.
@@ -29,37 +38,53 @@ pub struct Seen {
     pub digest: u64,
 }
 
-fn counts_right(k: Counts, told: Told) -> bool
-    ensures { result ≡ counts_right k told }
-{
-    if told.refusal != 0 {
-        return false;
+impl Seen {
+    // A pass that patches nothing.
+    pub fn refused(right: bool, digest: u64) -> Seen
+        ensures { result ≡ refusal_seen right digest }
+    {
+        Seen {
+            right,
+            gone: 0,
+            stranded: 0,
+            committed: 0,
+            written: 0,
+            holding: 0,
+            digest,
+        }
     }
-    if k.gone != told.gone {
-        return false;
+
+    fn done(k: Counts, right: bool, holding: usize, digest: u64) -> Seen
+        ensures { result ≡ done_seen k right holding digest }
+    {
+        Seen {
+            right,
+            gone: k.gone,
+            stranded: k.stranded,
+            committed: k.committed,
+            written: k.written,
+            holding,
+            digest,
+        }
     }
-    if k.stranded != told.stranded {
-        return false;
+}
+
+impl Told {
+    #[tactic(auto, unfolding(crate::specs::Judged::counts_right))]
+    fn tells(self, k: Counts) -> bool
+        ensures { result ≡ counts_right k self }
+    {
+        self.refusal == 0 && k == self.counts
     }
-    if k.committed != told.committed {
-        return false;
-    }
-    if k.written != told.written {
-        return false;
-    }
-    k.kept == told.kept
 }
 
 // Each flag is 0 or 1, and as many are 1 as are committed.
+#[tactic(auto, unfolding(crate::specs::Judged::flags_right))]
 fn flags_right(flags: &[u8], k: Counts) -> bool
     ensures { result ≡ flags_right flags.now k }
 {
-    let n = flags.len();
-    let ones = places::count_bytes(flags, 1, 0, n);
-    if ones != k.committed {
-        return false;
-    }
-    places::count_bytes(flags, 0, 0, n) == n - ones
+    let ones = replaying::count(flags, 1);
+    ones == k.committed && replaying::count(flags, 0) == flags.len() - ones
 }
 
 // All definitions that are not committed hold.
@@ -69,120 +94,59 @@ fn holding_right(holding: usize, k: Counts) -> bool
     holding == words::rows(k.gone) + words::rows(k.stranded)
 }
 
-fn all(a: bool, b: bool, c: bool, d: bool) -> bool
-    ensures { result ≡ all_of a b c d }
-{
-    if a {
-        if b {
-            if c {
-                return d;
-            }
-        }
-    }
-    false
-}
-
 // The file that was written, none where writing refused.
-fn file_of<'a>(written: Written, out: &'a [u8]) -> &'a [u8]
+fn file_of(written: Result<usize, Refusal>, out: &[u8]) -> &[u8]
     ensures { result.now ≡ file_of written out.now }
 {
     match written {
-        Written::Refused { number: _ } => &out[0..0],
-        Written::Done { length } => places::part(out, 0, length),
-    }
-}
-
-// A pass that patches nothing.
-pub fn refusal_seen(right: bool, digest: u64) -> Seen
-    ensures { result ≡ refusal_seen right digest }
-{
-    Seen {
-        right: right,
-        gone: 0,
-        stranded: 0,
-        committed: 0,
-        written: 0,
-        holding: 0,
-        digest: digest,
+        Err(_) => &[],
+        Ok(length) => replaying::part(out, 0, length),
     }
 }
 
 // A refusal leaves all as it was: what is written afterwards is the file that was read.
 fn judge_refused(
-    number: u8,
-    told: Told,
-    file: &[u8],
+    refusal: Refusal,
+    task: &Task<'_>,
     new: &[u64],
     flags: &[u8],
     written: &[u8],
-    digest: u64,
 ) -> Seen
-    ensures { result ≡ refusal_seen (refusal_right_lem told file.now new.now flags.now written.now number) digest }
+    ensures { result ≡ refusal_seen (refusal_right task.now.told task.now.file.now new.now flags.now written.now (number_of refusal)) task.now.digest }
 {
-    let is_told = number as usize == told.refusal;
-    let is_new = places::untouched_numbers(new, 0);
-    let is_flags = places::untouched_bytes(flags, 0);
-    let is_file = places::equal(written, file);
-    refusal_seen(all(is_told, is_new, is_flags, is_file), digest)
-}
-
-fn done_seen(k: Counts, right: bool, holding: usize, digest: u64) -> Seen
-    ensures { result ≡ done_seen k right holding digest }
-{
-    Seen {
-        right: right,
-        gone: k.gone,
-        stranded: k.stranded,
-        committed: k.committed,
-        written: k.written,
-        holding: holding,
-        digest: digest,
-    }
+    let right = refusal.number() as usize == task.told.refusal
+        && replaying::untouched(new, 0)
+        && replaying::untouched(flags, 0)
+        && replaying::same(written, task.file, 0);
+    Seen::refused(right, task.digest)
 }
 
 // A patched system: the told counts and file, flags by which it is filled back, and the result store's rest as it was.
-fn judge_done(
-    k: Counts,
-    told: Told,
-    file: &[u8],
-    new: &[u64],
-    flags: &[u8],
-    written: &[u8],
-    res: &[u8],
-    digest: u64,
-) -> Seen
-    ensures { DoneJudged told file.now new.now flags.now written.now res.now digest k result }
+fn judge_done(k: Counts, task: &Task<'_>, new: &[u64], flags: &[u8], written: &[u8]) -> Seen
+    ensures { DoneJudged task.now.told task.now.file.now new.now flags.now written.now task.now.patched.now task.now.digest k result }
 {
-    let is_told = counts_right(k, told);
-    let is_new = places::untouched_numbers(new, k.written);
-    let is_flags = flags_right(flags, k);
-    let is_file = places::equal(written, res);
-    let holding = words::filled(file, flags);
-    let right = all(is_told, is_new, is_flags, is_file);
-    done_seen(
-        k,
-        all(right, holding_right(holding, k), true, true),
-        holding,
-        places::digest_of(written, digest),
-    )
+    let holding = words::filled(task.file, flags);
+    let right = task.told.tells(k)
+        && replaying::untouched(new, k.written)
+        && flags_right(flags, k)
+        && replaying::same(written, task.patched, 0)
+        && holding_right(holding, k);
+    Seen::done(k, right, holding, replaying::digest(written, task.digest))
 }
 
 pub fn judge(
-    fused: Fused,
-    written: Written,
-    told: Told,
-    file: &[u8],
+    fused: Result<Counts, Refusal>,
+    written: Result<usize, Refusal>,
+    task: &Task<'_>,
     new: &[u64],
     flags: &[u8],
     out: &[u8],
-    res: &[u8],
-    digest: u64,
 ) -> Seen
-    ensures { Judged told file.now new.now flags.now (file_of written out.now) res.now digest fused result }
+    ensures { Judged task.now.told task.now.file.now new.now flags.now (file_of written out.now) task.now.patched.now task.now.digest fused result }
 {
     let bytes = file_of(written, out);
     match fused {
-        Fused::Refused(number) => judge_refused(number, told, file, new, flags, bytes, digest),
-        Fused::Done(k) => judge_done(k, told, file, new, flags, bytes, res, digest),
+        Err(refusal) => judge_refused(refusal, task, new, flags, bytes),
+        Ok(k) => judge_done(k, task, new, flags, bytes),
     }
 }

@@ -1,6 +1,6 @@
 // What is counted of all vectors.
 ghost use Rattle.std.specs.Prelude.{◌≡◌, ◌+◌, ◌%◌, ◌^◌};
-ghost use Rattle.replay_records.specs.Tallies.{plus_if, nothing_counted, vector_counted};
+ghost use Rattle.replay_records.specs.Tallies.{nothing_counted, vector_counted};
 
 use crate::judge::Seen;
 
@@ -17,48 +17,51 @@ pub struct Tally {
     pub digest: u64,
 }
 
-pub fn nothing() -> Tally
-    ensures { result ≡ nothing_counted }
-{
-    Tally {
-        right: 0,
-        wrong: 0,
-        gone: 0,
-        stranded: 0,
-        committed: 0,
-        written: 0,
-        holding: 0,
-        digest: 0,
-    }
-}
-
-// One more where it is so.
-fn plus(n: u64, so: bool) -> u64
-    ensures { result ≡ plus_if n so }
-{
-    if so {
-        return std::num::wrapping_add_u64(n, 1);
-    }
-    n
-}
-
 fn sum(n: u64, m: usize) -> u64
     ensures { result ≡ (n + m) % 2 ^ 64 }
 {
-    std::num::wrapping_add_u64(n, m as u64)
+    n.wrapping_add(m as u64)
 }
 
-pub fn vector_counted(t: Tally, seen: Seen) -> Tally
-    ensures { result ≡ vector_counted t seen }
-{
-    Tally {
-        right: plus(t.right, seen.right),
-        wrong: plus(t.wrong, !seen.right),
-        gone: sum(t.gone, seen.gone),
-        stranded: sum(t.stranded, seen.stranded),
-        committed: sum(t.committed, seen.committed),
-        written: sum(t.written, seen.written),
-        holding: sum(t.holding, seen.holding),
-        digest: seen.digest,
+impl Tally {
+    pub fn nothing() -> Tally
+        ensures { result ≡ nothing_counted }
+    {
+        Tally {
+            right: 0,
+            wrong: 0,
+            gone: 0,
+            stranded: 0,
+            committed: 0,
+            written: 0,
+            holding: 0,
+            digest: 0,
+        }
+    }
+
+    // One vector more.
+    pub fn count(self, seen: Seen) -> Tally
+        ensures { result ≡ vector_counted self seen }
+    {
+        let sums = Tally {
+            gone: sum(self.gone, seen.gone),
+            stranded: sum(self.stranded, seen.stranded),
+            committed: sum(self.committed, seen.committed),
+            written: sum(self.written, seen.written),
+            holding: sum(self.holding, seen.holding),
+            digest: seen.digest,
+            ..self
+        };
+        if seen.right {
+            Tally {
+                right: sum(self.right, 1),
+                ..sums
+            }
+        } else {
+            Tally {
+                wrong: sum(self.wrong, 1),
+                ..sums
+            }
+        }
     }
 }

@@ -1,13 +1,16 @@
 // An assignment, and what filling back makes of it: the definitions of a file's system hold, but for the committed wires.
-ghost use Rattle.std.specs.Prelude.{◌≡◌, ◌^◌, ◌<◌, ◌≤◌, [], length};
-ghost use Rattle.records.specs.Records.{stores_by};
-ghost use Rattle.replay_records.specs.Words.{stirred, word_at, made_words, rows_of, definitions_at, holds_of, holding_of, counted_of, FilledIn, WithWords, FromRead, Filled};
+ghost use Rattle.std.specs.Prelude.{◌≡◌, ◌^◌, ◌<◌, ◌≤◌, length};
+ghost use Rattle.refusal.specs.Refusals.{fault_in};
+ghost use Rattle.lower.specs.Accepted.{MAX_DEFINITIONS};
+ghost use Rattle.records.specs.Records.{records_in};
+ghost use Rattle.replay_records.specs.Words.{stirred, word_at, made_words, rows_of, definitions_at, holds_of, holding_of, counted_of, FilledIn, WithWords, Filled};
 
 use crate::{lend, places};
-use evaluate::Evaluated;
-use house_file::Read;
 use lower::Sizes;
-use records::Definition;
+use operand::TermStores;
+use records::{Definition, LentRecords};
+use refusal::Refusal;
+use replaying::UNTOUCHED;
 
 // Six operands at most of each of 1,024 constraints, and one of each of 1,024 definitions.
 const MAX_VALUES: usize = 7168;
@@ -19,6 +22,7 @@ fn stir(x: u64) -> u64
 }
 
 // The word of wire `i`.
+#[tactic(auto, unfolding(crate::specs::Words::word_at))]
 fn word(i: usize) -> u64
     ensures { result ≡ word_at i }
 {
@@ -30,10 +34,8 @@ fn word(i: usize) -> u64
 fn make(words: &mut [u64])
     ensures { words.new ≡ made_words (length words.old) words.old }
 {
-    let mut i = 0;
-    while i < words.len() {
+    for i in 0..words.len() {
         words[i] = word(i);
-        i += 1;
     }
 }
 
@@ -41,7 +43,7 @@ fn make(words: &mut [u64])
 pub fn rows(n: usize) -> usize
     ensures { (result ≡ rows_of n) × (result ≤ 1024) }
 {
-    places::least(n, lower::MAX_OTHERS)
+    n.min(lower::MAX_OTHERS)
 }
 
 // Where the values of the definitions begin, in the writer's order.
@@ -52,6 +54,7 @@ fn definitions_at(z: Sizes) -> usize
 }
 
 // 1 where the definition's wire is not committed, and its word is the value.
+#[tactic(auto, unfolding(crate::specs::Words::holds_of))]
 fn holds(d: Definition, value: u64, flags: &[u8], words: &[u64]) -> usize
     ensures { (result ≡ holds_of d value flags.now words.now) × (result ≤ 1) }
 {
@@ -64,152 +67,101 @@ fn holds(d: Definition, value: u64, flags: &[u8], words: &[u64]) -> usize
 
 // How many of the first `n` definitions hold so.
 fn holding(
-    defs: [Definition; lower::MAX_DEFINITIONS],
+    defs: &[Definition],
     n: usize,
     values: &[u64],
     at: usize,
     flags: &[u8],
     words: &[u64],
 ) -> usize
-    requires { (n ≤ 1024) × (at < 2 ^ 16) }
-    ensures { result ≡ holding_of defs n values.now at flags.now words.now }
+    requires { (n ≤ 1024) × (n ≤ length defs.now) × (at < 2 ^ 16) }
+    ensures { result ≡ holding_of defs.now n values.now at flags.now words.now }
 {
-    let mut i = 0;
     let mut c = 0;
-    while i < n {
+    for i in 0..n {
         c += holds(defs[i], places::get(values, at + i), flags, words);
-        i += 1;
     }
     c
 }
 
+#[tactic(auto, using(lower::proofs::Refusals::number_some), unfolding(crate::specs::Words::counted_of))]
 fn counted(
-    filled: u8,
-    evaluated: Evaluated,
-    defs: [Definition; lower::MAX_DEFINITIONS],
-    z: Sizes,
+    filled: Result<(), Refusal>,
+    evaluated: Result<usize, Refusal>,
+    system: &LentRecords<'_>,
     values: &[u64],
     flags: &[u8],
     words: &[u64],
 ) -> usize
-    ensures { result ≡ counted_of filled evaluated defs z values.now flags.now words.now }
+    requires { length system.now.defs.now ≡ MAX_DEFINITIONS }
+    ensures { result ≡ counted_of (fault_in filled) evaluated system.now.defs.now system.now.sizes values.now flags.now words.now }
 {
-    if filled != 0 {
-        return 0;
-    }
-    match evaluated {
-        Evaluated::Refused { number: _ } => 0,
-        Evaluated::Done { count: _ } => holding(
-            defs,
-            rows(z.linears),
-            values,
-            definitions_at(z),
-            flags,
-            words,
-        ),
+    match (filled, evaluated) {
+        (Ok(()), Ok(_)) => {
+            let z = system.sizes;
+            holding(
+                system.defs,
+                rows(z.linears),
+                values,
+                definitions_at(z),
+                flags,
+                words,
+            )
+        }
+        _ => 0,
     }
 }
 
-fn filled_in(
-    old: &[u64],
-    ands: &[u64],
-    imuls: &[u64],
-    bmuls: &[u64],
-    zeros: &[u64],
-    defs: [Definition; lower::MAX_DEFINITIONS],
-    z: Sizes,
-    flags: &[u8],
-    words: &mut [u64],
-    values: &mut [u64],
-) -> usize
-    ensures { FilledIn z (stores_by old.now [] ands.now imuls.now bmuls.now zeros.now defs) defs flags.now words.old values.old words.new values.new result }
+fn filled_in(system: &LentRecords<'_>, flags: &[u8], words: &mut [u64], values: &mut [u64]) -> usize
+    requires { length system.now.defs.now ≡ MAX_DEFINITIONS }
+    ensures { FilledIn system.now.sizes (records_in system.now) system.now.defs.now flags.now words.old values.old words.new values.new result }
 {
     make(&mut *words);
-    let filled = lend::fill_back(old, ands, imuls, bmuls, zeros, defs, z, flags, &mut *words);
-    let evaluated = lend::evaluate(
-        old,
-        &old[0..0],
-        ands,
-        imuls,
-        bmuls,
-        zeros,
-        defs,
-        z,
-        &*words,
-        &mut *values,
-    );
-    counted(filled, evaluated, defs, z, &*values, flags, &*words)
+    let filled = records::fill_back_records(system, flags, &mut *words);
+    let evaluated = records::values::evaluate_records(system, &*words, &mut *values);
+    counted(filled, evaluated, system, &*values, flags, &*words)
 }
 
 // As many words as wires.
-fn with_words(
-    old: &[u64],
-    ands: &[u64],
-    imuls: &[u64],
-    bmuls: &[u64],
-    zeros: &[u64],
-    defs: [Definition; lower::MAX_DEFINITIONS],
-    z: Sizes,
-    flags: &[u8],
-) -> usize
-    ensures { WithWords z (stores_by old.now [] ands.now imuls.now bmuls.now zeros.now defs) defs flags.now result }
+fn with_words(system: &LentRecords<'_>, flags: &[u8]) -> usize
+    requires { length system.now.defs.now ≡ MAX_DEFINITIONS }
+    ensures { WithWords system.now.sizes (records_in system.now) system.now.defs.now flags.now result }
 {
-    let n = places::least(z.wires, lower::MAX_WIRES);
+    let n = system.sizes.wires.min(lower::MAX_WIRES);
     let mut words = [0u64; lower::MAX_WIRES];
-    let mut values = [places::UNTOUCHED; MAX_VALUES];
-    filled_in(
-        old,
-        ands,
-        imuls,
-        bmuls,
-        zeros,
-        defs,
-        z,
-        flags,
-        &mut words[0..n],
-        &mut values,
-    )
+    let mut values = [UNTOUCHED; MAX_VALUES];
+    filled_in(system, flags, &mut words[..n], &mut values)
 }
 
-fn from_read(
-    read: Read,
-    old: &[u64],
-    ands: &[u64],
-    imuls: &[u64],
-    bmuls: &[u64],
-    zeros: &[u64],
-    defs: [Definition; lower::MAX_DEFINITIONS],
-    flags: &[u8],
-) -> usize
-    ensures { FromRead (stores_by old.now [] ands.now imuls.now bmuls.now zeros.now defs) defs flags.now read result }
-{
-    match read {
-        Read::Refused { number: _, at: _ } => 0,
-        Read::Done { sizes, terms: _ } => {
-            with_words(old, ands, imuls, bmuls, zeros, defs, sizes, flags)
-        }
-    }
-}
-
+// Kept: makes the stores that `attempt` makes too: with no heap they stand in the function that lends them.
 // How many uncommitted definitions of the file's system hold, once filled back.
 pub fn filled(file: &[u8], flags: &[u8]) -> usize
     ensures { Filled file.now flags.now result }
 {
-    let mut terms = [places::UNTOUCHED; 8192];
-    let mut ands = [places::UNTOUCHED; 3072];
-    let mut imuls = [places::UNTOUCHED; 4096];
-    let mut bmuls = [places::UNTOUCHED; 6144];
-    let mut zeros = [places::UNTOUCHED; 1024];
+    let mut terms = [UNTOUCHED; 8192];
+    let mut ands = [UNTOUCHED; 3072];
+    let mut imuls = [UNTOUCHED; 4096];
+    let mut bmuls = [UNTOUCHED; 6144];
+    let mut zeros = [UNTOUCHED; 1024];
     let loaded = lend::read(
-        file,
-        &mut terms,
-        &mut ands,
-        &mut imuls,
-        &mut bmuls,
-        &mut zeros,
-        lend::blank(),
+        file, &mut terms, &mut ands, &mut imuls, &mut bmuls, &mut zeros,
     );
-    let read = loaded.read;
-    let defs = loaded.defs;
-    from_read(read, &terms, &ands, &imuls, &bmuls, &zeros, defs, flags)
+    match loaded.read {
+        Err(_) => 0,
+        Ok(read) => {
+            let system = LentRecords {
+                stores: TermStores {
+                    old: &terms,
+                    new: &[],
+                },
+                ands: &ands,
+                imuls: &imuls,
+                bmuls: &bmuls,
+                zeros: &zeros,
+                defs: &loaded.defs,
+                sizes: read.sizes,
+            };
+            with_words(&system, flags)
+        }
+    }
 }

@@ -1,21 +1,14 @@
 -- The answers that the replay takes together: compose of all pairs of valid shifts, push_inner of a spread of triples, apply of all valid
 -- shifts to 300 words. Assumes nothing.
-use Rattle.std.specs.Prelude.{ℕ, ◌+◌, ◌-◌, ◌*◌, ◌/◌, ◌%◌, cond, List, [], ◌∷◌, nat_lt, slice_index}
-use Rattle.word.specs.declared.Shifted.{Shifted}
-use Rattle.word.specs.declared.Shifted.TheVariants.{Word, Refused}
+use Rattle.std.specs.Prelude.{ℕ, ◌+◌, ◌-◌, ◌*◌, ◌/◌, ◌%◌, cond, List, [], ◌∷◌, nat_lt, slice_index, Result, Ok, Err}
+use Rattle.refusal.specs.declared.Refusal.{Refusal}
 use Rattle.shift.specs.declared.Shift.{Shift}
 use Rattle.shift.specs.declared.Composition.{Composition}
 use Rattle.shift.specs.declared.Composition.TheVariants.{Single, Zero, Pair}
-use Rattle.shift.specs.declared.Composed.{Composed}
-use Rattle.shift.specs.declared.Composed.TheVariants as C
-use Rattle.shift.specs.declared.Found.{Found}
-use Rattle.shift.specs.declared.Found.TheVariants as F
 use Rattle.shift.specs.Shifts.{by, variant_at}
 use Rattle.shift.specs.Answers.{found, composed, applied}
 use Rattle.operand.specs.declared.PushInner.{PushInner}
 use Rattle.operand.specs.declared.PushInner.TheVariants as P
-use Rattle.operand.specs.declared.Pushed.{Pushed}
-use Rattle.operand.specs.declared.Pushed.TheVariants as Q
 use Rattle.operand.specs.Push.{pushed}
 use Rattle.replay_shift.specs.declared.Words.{Words}
 use Rattle.replay_shift.specs.declared.Tally.{Tally}
@@ -31,9 +24,9 @@ of_push t (P.Seq a b) = shift_in (shift_in (counted t 0) a) b
 of_push t P.Zero = counted t 1
 of_push t P.OverBudget = counted t 2
 
-abbrev of_composed : Tally → Composed → Tally
-of_composed t (C.Is c) = of_composition t c
-of_composed t C.Refused = t
+abbrev of_composed : Tally → Result Composition Refusal → Tally
+of_composed t (Ok c) = of_composition t c
+of_composed t (Err _) = t
 
 abbrev pub compose_at : Tally → Shift → Shift → Tally
 compose_at t i o = of_composed t (composed i o)
@@ -42,9 +35,9 @@ compose_at t i o = of_composed t (composed i o)
 abbrev pub nth_valid : ℕ → Shift
 nth_valid k = cond (nat_lt k 256) (by (variant_at (k / 64)) (k % 64)) (by (variant_at (k / 32 - 4)) (k % 32))
 
-abbrev of_found : Tally → Found → Tally
-of_found t (F.Valid s) = shift_in (counted t 0) s
-of_found t F.Refused = counted t 1
+abbrev of_found : Tally → Result Shift Refusal → Tally
+of_found t (Ok s) = shift_in (counted t 0) s
+of_found t (Err _) = counted t 1
 
 unfoldable pub index_at : ℕ → Tally → Tally
 index_at n t = of_found t (found n)
@@ -58,9 +51,9 @@ compose_row i t = over (λ k t. compose_at t i (nth_valid k)) 384 t
 unfoldable pub compose_all : Tally
 compose_all = over (λ k t. compose_row (nth_valid k) t) 384 none
 
-abbrev of_pushed : Tally → Pushed → Tally
-of_pushed t (Q.Is p) = of_push t p
-of_pushed t Q.Refused = t
+abbrev of_pushed : Tally → Result PushInner Refusal → Tally
+of_pushed t (Ok p) = of_push t p
+of_pushed t (Err _) = t
 
 unfoldable pub push_at : Shift → Shift → Shift → ℕ → Tally → Tally
 push_at i o s slots t = of_pushed t (pushed i o s slots)
@@ -78,9 +71,9 @@ push_row i t = over (push_pair i) 384 t
 unfoldable pub push_all : Tally
 push_all = over push_row 384 none
 
-abbrev of_shifted : ℕ → Shifted → ℕ
-of_shifted h (Word v) = mixed h v
-of_shifted h Refused = h
+abbrev of_shifted : ℕ → Result ℕ Refusal → ℕ
+of_shifted h (Ok v) = mixed h v
+of_shifted h (Err _) = h
 
 abbrev pub apply_at : ℕ → ℕ → Shift → ℕ
 apply_at h w s = of_shifted h (applied s w)

@@ -4,11 +4,10 @@
 --   churned        a word with its bits stirred; mixed h x, the digest h with x stirred in
 --   counted t k    one answer more of the case k, and its number in the digest
 --   mixed_in t x    the value x of the answer in the digest; shift_in t s, the shift s by its number
-use Rattle.std.specs.Prelude.{ℕ, zero, suc, ◌+◌, ◌%◌, ◌^◌, cond, ◌==◌, bit_xor}
+use Rattle.std.specs.Prelude.{ℕ, zero, suc, ◌+◌, ◌%◌, ◌^◌, cond, ◌==◌, bit_xor, Result, Ok, Err}
 use Rattle.word.specs.Word.{left, right}
+use Rattle.refusal.specs.declared.Refusal.{Refusal}
 use Rattle.shift.specs.declared.Shift.{Shift}
-use Rattle.shift.specs.declared.Numbered.{Numbered}
-use Rattle.shift.specs.declared.Numbered.TheVariants.{Number, Refused}
 use Rattle.shift.specs.Answers.{numbered}
 use Rattle.replay_shift.specs.declared.Tally.{Tally}
 
@@ -46,9 +45,9 @@ mixed_in t x = tally t.first t.second t.third (mixed t.digest x)
 abbrev pub none : Tally
 none = tally 0 0 0 0
 
-abbrev number_in : Tally → Numbered → Tally
-number_in t (Number n) = mixed_in t n
-number_in t Refused = t
+abbrev number_in : Tally → Result ℕ Refusal → Tally
+number_in t (Ok n) = mixed_in t n
+number_in t (Err _) = t
 
 abbrev pub shift_in : Tally → Shift → Tally
 shift_in t s = number_in t (numbered s)

@@ -3,18 +3,16 @@
 // and refusals of shifts and numbers that the Rust takes differently or not at all.
 #![tactic(auto)]
 
-ghost use Rattle.std.specs.Prelude.{◌≡◌, ◌<◌};
-ghost use Rattle.word.specs.Answers.{told};
-ghost use Rattle.shift.specs.Answers.{told_number, told_composed};
-ghost use Rattle.operand.specs.Push.{told_pushed};
+ghost use Rattle.std.specs.Prelude.{◌≡◌, ℕ, ◌<◌, List};
+ghost use Rattle.word.specs.Answers.{told_by};
 ghost use Rattle.replay_shift.specs.Tallies.{over, churned, mixed, more, counted, mixed_in, shift_in};
 ghost use Rattle.replay_shift.specs.Replay.{of_composition, of_push, nth_valid, index_at, index_all, compose_at, compose_row, compose_all, push_at, third_of, push_pair, push_row, push_all, apply_at, apply_word, apply_edges, apply_next, apply_all};
 ghost use Rattle.replay_shift.specs.Refusals.{refusal_of, noted, noted_apply, noted_index, noted_compose, noted_push, noted_shift, noted_number, noted_all};
 
-use operand::{PushInner, Pushed};
-use shift::{Composed, Composition, Found, Numbered, Shift, ShiftVariant};
+use operand::PushInner;
+use refusal::Refusal;
+use shift::{Composition, Shift, ShiftVariant};
 use std::io;
-use word::Shifted;
 
 // How often each case of an answer came, by the case's number, and the digest of the answers so far.
 #[derive(Clone, Copy)]
@@ -24,6 +22,13 @@ pub struct Tally {
     pub third: u64,
     pub digest: u64,
 }
+
+const NONE: Tally = Tally {
+    first: 0,
+    second: 0,
+    third: 0,
+    digest: 0,
+};
 
 // The last word, and the digest so far.
 #[derive(Clone, Copy)]
@@ -43,64 +48,56 @@ fn churn(w: u64) -> u64
 fn mix(h: u64, x: u64) -> u64
     ensures { result ≡ mixed h x }
 {
-    std::num::wrapping_add_u64(churn(h ^ x), 0x9e37_79b9_7f4a_7c15)
+    churn(h ^ x).wrapping_add(0x9e37_79b9_7f4a_7c15)
 }
 
 fn one_more(n: u64) -> u64
     ensures { result ≡ more n }
 {
-    std::num::wrapping_add_u64(n, 1)
+    n.wrapping_add(1)
 }
 
+// What `step` makes of `first` at 0, then of that at 1, .., and at last at n - 1.
+fn over<A: Copy, F: Fn(A, u64) -> A>(n: u64, first: A, step: F) -> A
+    requires { (a : A) (k : ℕ) → k < n → F.pre step a k }
+    ensures { (f : ℕ → A → A) → ((a : A) (k : ℕ) (r : A) → k < n → F.post step a k r → r ≡ f k a) → result ≡ over f n first }
+{
+    let mut sum = first;
+    for k in 0..n {
+        sum = step(sum, k);
+    }
+    sum
+}
+
+#[tactic(auto, unfolding(crate::specs::Tallies::counted, crate::specs::Tallies::mixed_in))]
 fn count(t: Tally, k: u64) -> Tally
     ensures { result ≡ counted t k }
 {
-    let first = t.first;
-    let second = t.second;
-    let third = t.third;
-    let digest = mix(t.digest, k);
-    if k == 0 {
-        return Tally {
-            first: one_more(first),
-            second,
-            third,
-            digest,
-        };
+    let mut counts = mix_in(t, k);
+    match k {
+        0 => counts.first = one_more(t.first),
+        1 => counts.second = one_more(t.second),
+        _ => counts.third = one_more(t.third),
     }
-    if k == 1 {
-        return Tally {
-            first,
-            second: one_more(second),
-            third,
-            digest,
-        };
-    }
-    Tally {
-        first,
-        second,
-        third: one_more(third),
-        digest,
-    }
+    counts
 }
 
+#[tactic(auto, unfolding(crate::specs::Tallies::mixed_in))]
 fn mix_in(t: Tally, x: u64) -> Tally
     ensures { result ≡ mixed_in t x }
 {
     Tally {
-        first: t.first,
-        second: t.second,
-        third: t.third,
         digest: mix(t.digest, x),
+        ..t
     }
 }
 
 fn shift_in(t: Tally, s: Shift) -> Tally
     ensures { result ≡ shift_in t s }
 {
-    let n = s.index();
-    match n {
-        Numbered::Number(x) => mix_in(t, x),
-        Numbered::Refused => t,
+    match s.index() {
+        Ok(x) => mix_in(t, x),
+        Err(_) => t,
     }
 }
 
@@ -130,10 +127,7 @@ fn valid_shift(k: u64) -> Shift
     ensures { result ≡ nth_valid k }
 {
     if k < 256 {
-        return Shift {
-            variant: ShiftVariant::from_u8((k / 64) as u8),
-            amount: (k % 64) as u8,
-        };
+        return Shift::spelled(k);
     }
     Shift {
         variant: ShiftVariant::from_u8((k / 32 - 4) as u8),
@@ -141,93 +135,65 @@ fn valid_shift(k: u64) -> Shift
     }
 }
 
+#[tactic(auto, unfolding(crate::specs::Replay::index_at))]
 fn index_at(t: Tally, n: u64) -> Tally
     ensures { result ≡ index_at n t }
 {
-    let f = Shift::from_index(n);
-    match f {
-        Found::Valid(s) => shift_in(count(t, 0), s),
-        Found::Refused => count(t, 1),
+    match Shift::from_index(n) {
+        Ok(s) => shift_in(count(t, 0), s),
+        Err(_) => count(t, 1),
     }
 }
 
 // Numbers to shifts and back, up to twice the numbers that the Rust takes.
+#[tactic(auto, unfolding(crate::specs::Replay::index_all))]
 fn index_all() -> Tally
     ensures { result ≡ index_all }
 {
-    let mut sum = Tally {
-        first: 0,
-        second: 0,
-        third: 0,
-        digest: 0,
-    };
-    let mut n: u64 = 0;
-    while n < 1024 {
-        sum = index_at(sum, n);
-        n += 1;
-    }
-    sum
+    over(1024, NONE, |sum, n| index_at(sum, n))
 }
 
 fn compose_at(t: Tally, inner: Shift, outer: Shift) -> Tally
     ensures { result ≡ compose_at t inner outer }
 {
-    let c = Shift::compose(inner, outer);
-    match c {
-        Composed::Is(x) => of_composition(t, x),
-        Composed::Refused => t,
+    match Shift::compose(inner, outer) {
+        Ok(x) => of_composition(t, x),
+        Err(_) => t,
     }
 }
 
+#[tactic(auto, unfolding(crate::specs::Replay::compose_row))]
 fn compose_row(t: Tally, inner: Shift) -> Tally
     ensures { result ≡ compose_row inner t }
 {
-    let mut sum = t;
-    let mut k: u64 = 0;
-    while k < 384 {
-        sum = compose_at(sum, inner, valid_shift(k));
-        k += 1;
-    }
-    sum
+    over(384, t, |sum, k| compose_at(sum, inner, valid_shift(k)))
 }
 
+#[tactic(auto, unfolding(crate::specs::Replay::compose_all))]
 fn compose_all() -> Tally
     ensures { result ≡ compose_all }
 {
-    let mut sum = Tally {
-        first: 0,
-        second: 0,
-        third: 0,
-        digest: 0,
-    };
-    let mut k: u64 = 0;
-    while k < 384 {
-        sum = compose_row(sum, valid_shift(k));
-        k += 1;
-    }
-    sum
+    over(384, NONE, |sum, k| compose_row(sum, valid_shift(k)))
 }
 
+#[tactic(auto, unfolding(crate::specs::Replay::push_at))]
 fn push_at(t: Tally, inner: Shift, outer: Shift, shift: Shift, slots: usize) -> Tally
     ensures { result ≡ push_at inner outer shift slots t }
 {
-    let p = operand::push_inner(inner, outer, shift, slots);
-    match p {
-        Pushed::Is(x) => of_push(t, x),
-        Pushed::Refused => t,
+    match operand::push_inner(inner, outer, shift, slots) {
+        Ok(x) => of_push(t, x),
+        Err(_) => t,
     }
 }
 
 fn push_slots(t: Tally, inner: Shift, outer: Shift, shift: Shift) -> Tally
     ensures { result ≡ over (push_at inner outer shift) 4 t }
 {
-    let mut sum = t;
-    let mut slots: usize = 0;
-    while slots < 4 {
-        sum = push_at(sum, inner, outer, shift, slots);
-        slots += 1;
-    }
-    sum
+    over(
+        4,
+        t,
+        |sum, slots| push_at(sum, inner, outer, shift, slots as usize),
+    )
 }
 
 // One of a spread of third shifts for the pair of the i-th and the o-th.
@@ -238,71 +204,45 @@ fn third(i: u64, o: u64, k: u64) -> Shift
     valid_shift((37 * i + 101 * o + 53 * k + 11) % 384)
 }
 
+#[tactic(auto, unfolding(crate::specs::Replay::push_pair))]
 fn push_pair(t: Tally, i: u64, o: u64) -> Tally
     requires { (i < 384) × (o < 384) }
     ensures { result ≡ push_pair i o t }
 {
     let inner = valid_shift(i);
     let outer = valid_shift(o);
-    let mut sum = t;
-    let mut k: u64 = 0;
-    while k < 6 {
-        sum = push_slots(sum, inner, outer, third(i, o, k));
-        k += 1;
-    }
-    sum
+    over(6, t, |sum, k| push_slots(sum, inner, outer, third(i, o, k)))
 }
 
+#[tactic(auto, unfolding(crate::specs::Replay::push_row))]
 fn push_row(t: Tally, i: u64) -> Tally
     requires { i < 384 }
     ensures { result ≡ push_row i t }
 {
-    let mut sum = t;
-    let mut o: u64 = 0;
-    while o < 384 {
-        sum = push_pair(sum, i, o);
-        o += 1;
-    }
-    sum
+    over(384, t, |sum, o| push_pair(sum, i, o))
 }
 
+#[tactic(auto, unfolding(crate::specs::Replay::push_all))]
 fn push_all() -> Tally
     ensures { result ≡ push_all }
 {
-    let mut sum = Tally {
-        first: 0,
-        second: 0,
-        third: 0,
-        digest: 0,
-    };
-    let mut i: u64 = 0;
-    while i < 384 {
-        sum = push_row(sum, i);
-        i += 1;
-    }
-    sum
+    over(384, NONE, |sum, i| push_row(sum, i))
 }
 
 fn apply_at(h: u64, w: u64, s: Shift) -> u64
     ensures { result ≡ apply_at h w s }
 {
-    let x = s.apply(w);
-    match x {
-        Shifted::Word(v) => mix(h, v),
-        Shifted::Refused => h,
+    match s.apply(w) {
+        Ok(v) => mix(h, v),
+        Err(_) => h,
     }
 }
 
+#[tactic(auto, unfolding(crate::specs::Replay::apply_word))]
 fn apply_word(h: u64, w: u64) -> u64
     ensures { result ≡ apply_word w h }
 {
-    let mut sum = h;
-    let mut k: u64 = 0;
-    while k < 384 {
-        sum = apply_at(sum, w, valid_shift(k));
-        k += 1;
-    }
-    sum
+    over(384, h, |sum, k| apply_at(sum, w, valid_shift(k)))
 }
 
 const EDGES: [u64; 8] = [
@@ -316,18 +256,14 @@ const EDGES: [u64; 8] = [
     0xffff_ffff_0000_0000,
 ];
 
+#[tactic(auto, unfolding(crate::specs::Replay::apply_edges))]
 fn apply_edges() -> u64
     ensures { result ≡ apply_edges }
 {
-    let mut sum: u64 = 0;
-    let mut k: usize = 0;
-    while k < 8 {
-        sum = apply_word(sum, EDGES[k]);
-        k += 1;
-    }
-    sum
+    EDGES.iter().fold(0, |sum, w| apply_word(sum, *w))
 }
 
+#[tactic(auto, unfolding(crate::specs::Replay::apply_next))]
 fn apply_next(s: Words) -> Words
     ensures { result ≡ apply_next s }
 {
@@ -338,54 +274,24 @@ fn apply_next(s: Words) -> Words
     }
 }
 
+#[tactic(auto, unfolding(crate::specs::Replay::apply_all))]
 fn apply_all() -> u64
     ensures { result ≡ apply_all }
 {
-    let mut s = Words {
+    let first = Words {
         word: 0x0123_4567_89ab_cdef,
         digest: apply_edges(),
     };
-    let mut k: usize = 0;
-    while k < 292 {
-        s = apply_next(s);
-        k += 1;
-    }
-    s.digest
+    over(292, first, |s, _| apply_next(s)).digest
 }
 
-fn shifted_refusal(x: Shifted) -> u64
-    ensures { result ≡ refusal_of (told x) }
+// The number of a refusal, 0 for an answer.
+fn refusal_of<T: Copy>(x: Result<T, Refusal>) -> u64
+    ensures { (values : T → List ℕ) → result ≡ refusal_of (told_by values x) }
 {
     match x {
-        Shifted::Word(_) => 0,
-        Shifted::Refused => 4,
-    }
-}
-
-fn number_refusal(x: Numbered) -> u64
-    ensures { result ≡ refusal_of (told_number x) }
-{
-    match x {
-        Numbered::Number(_) => 0,
-        Numbered::Refused => 4,
-    }
-}
-
-fn composed_refusal(x: Composed) -> u64
-    ensures { result ≡ refusal_of (told_composed x) }
-{
-    match x {
-        Composed::Is(_) => 0,
-        Composed::Refused => 4,
-    }
-}
-
-fn pushed_refusal(x: Pushed) -> u64
-    ensures { result ≡ refusal_of (told_pushed x) }
-{
-    match x {
-        Pushed::Is(_) => 0,
-        Pushed::Refused => 4,
+        Ok(_) => 0,
+        Err(r) => r.number() as u64,
     }
 }
 
@@ -399,31 +305,29 @@ fn note(t: Tally, refusal: u64) -> Tally
 fn note_apply(t: Tally, s: Shift) -> Tally
     ensures { result ≡ noted_apply t s }
 {
-    note(t, shifted_refusal(s.apply(1)))
+    note(t, refusal_of(s.apply(1)))
 }
 
 fn note_index(t: Tally, s: Shift) -> Tally
     ensures { result ≡ noted_index t s }
 {
-    note(t, number_refusal(s.index()))
+    note(t, refusal_of(s.index()))
 }
 
 fn note_compose(t: Tally, inner: Shift, outer: Shift) -> Tally
     ensures { result ≡ noted_compose t inner outer }
 {
-    note(t, composed_refusal(Shift::compose(inner, outer)))
+    note(t, refusal_of(Shift::compose(inner, outer)))
 }
 
 fn note_push(t: Tally, inner: Shift, outer: Shift, shift: Shift) -> Tally
     ensures { result ≡ noted_push t inner outer shift }
 {
-    note(
-        t,
-        pushed_refusal(operand::push_inner(inner, outer, shift, 2)),
-    )
+    note(t, refusal_of(operand::push_inner(inner, outer, shift, 2)))
 }
 
 // The shift s in each place where a call takes one, beside sll 0, which an early answer looks at first.
+#[tactic(auto, unfolding(crate::specs::Refusals::noted_shift))]
 fn note_shift(t: Tally, s: Shift) -> Tally
     ensures { result ≡ noted_shift s t }
 {
@@ -434,6 +338,7 @@ fn note_shift(t: Tally, s: Shift) -> Tally
     note_push(c, id, id, s)
 }
 
+#[tactic(auto, unfolding(crate::specs::Refusals::noted_number))]
 fn note_number(t: Tally, n: u64) -> Tally
     requires { n < 2048 }
     ensures { result ≡ noted_number n t }
@@ -446,21 +351,11 @@ fn note_number(t: Tally, n: u64) -> Tally
 }
 
 // Every shift that can be spelled, valid or not.
+#[tactic(auto, unfolding(crate::specs::Refusals::noted_all))]
 fn note_all() -> Tally
     ensures { result ≡ noted_all }
 {
-    let mut sum = Tally {
-        first: 0,
-        second: 0,
-        third: 0,
-        digest: 0,
-    };
-    let mut n: u64 = 0;
-    while n < 2048 {
-        sum = note_number(sum, n);
-        n += 1;
-    }
-    sum
+    over(2048, NONE, |sum, n| note_number(sum, n))
 }
 
 fn main(rt: HostRuntime) -> io::Result<()> {

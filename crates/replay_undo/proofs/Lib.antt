@@ -1,3 +1,1 @@
 pub mod Turns
-pub mod Parts
-pub mod Calls

@@ -1,5 +1,5 @@
 -- Turns, one after the other. Assumes nothing.
-use Rattle.std.proofs.Common.{◌≡◌, ℕ, zero, suc, ◌+◌, ◌*◌, ◌%◌, ◌^◌, ◌≤◌, List, get_or, set, sym, refl, ap, ◌∙◌, add-one, arith}
+use Rattle.std.proofs.Common.{◌≡◌, ℕ, zero, suc, ◌+◌, ◌*◌, ◌%◌, ◌^◌, ◌≤◌, List, get_or, set, sym, refl, ap, ◌∙◌, add-one, mul-le-mul, arith}
 use Rattle.replay_undo.specs.Places.{turns, same_of, same_places, mixed, digest_of, row_mixed, rows_mixed}
 use Rattle.replay_undo.specs.Words.{random_of, word_at, made_words, disturbed, overwritten, laid_flags}
 use Rattle.replay_undo.specs.Values.{holding_of}
@@ -50,3 +50,7 @@ pub other_word : (kind seed i : ℕ) → 2 ≤ kind → random_of (mixed seed ki
 other_word zero seed i h = absurd (omega arith)
 other_word (suc zero) seed i h = absurd (omega arith)
 other_word (suc (suc kind)) seed i h = refl
+
+-- a row begins no more than six numbers a row behind the first
+pub rows_small : (i k : ℕ) → i ≤ 1024 → k ≤ 6 → i * k ≤ 6144
+rows_small i k p q = mul-le-mul p q

@@ -1,7 +1,5 @@
 -- Stores, place by place.
 --
---   least_of a b         the smaller of the two
---   part_of l b e        the places from b on and before e; none where they are not all there
 --   turns f n s         n turns from s on, the i-th of them by f i
 --   same_places          how many of n places from one on are the same in both lists
 --   mixed, digest_of     the digest of numbers
@@ -10,13 +8,7 @@
 --   same_rows            how many numbers these rows have, where both lists come to the same two sums, else 0
 --
 -- Assumes nothing.
-use Rattle.std.specs.Prelude.{ℕ, zero, suc, ◌+◌, ◌*◌, ◌%◌, ◌^◌, cond, ◌&&◌, List, [], length, ◌==◌, bit_xor, nat_le, slice_index, slice_range}
-
-abbrev pub least_of : ℕ → ℕ → ℕ
-least_of a b = cond (nat_le b a) b a
-
-abbrev pub part_of : List ℕ → ℕ → ℕ → List ℕ
-part_of l begin end = cond (nat_le begin end && nat_le end (length l)) (slice_range l begin end) []
+use Rattle.std.specs.Prelude.{ℕ, zero, suc, ◌+◌, ◌*◌, ◌%◌, ◌^◌, cond, ◌&&◌, List, ◌==◌, bit_xor, slice_index}
 
 unfoldable pub turns : (A : Type 0) → (ℕ → A → A) → ℕ → A → A
 turns A f zero s = s
@@ -27,10 +19,6 @@ same_of a b = cond (a == b) 1 0
 
 abbrev pub same_places : List ℕ → List ℕ → ℕ → ℕ → ℕ
 same_places a b from n = turns ℕ (λ i c. c + same_of (slice_index a (from + i)) (slice_index b (from + i))) n 0
-
--- what stands in each store before anything is put there
-abbrev pub UNTOUCHED : ℕ
-UNTOUCHED = 7
 
 abbrev pub mixed : ℕ → ℕ → ℕ
 mixed digest x = (bit_xor digest x % 1000000007 * 48271 + 11) % 1000000007

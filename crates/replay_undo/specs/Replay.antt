@@ -1,21 +1,16 @@
 -- The replay of undoing: what the bytes of the input come to.
 --
---   number_at b at       a number of four bytes, the low one first
 --   vector_at b at       the vector that begins at `at`: where its house file stands, its slots, and the seed of its words
 --   VectorReplayed      one vector under the first so many kinds of assignments
 --   Replayed b at t     t is counted of the vectors before `at`
 --
 -- Assumes nothing.
-use Rattle.std.specs.Prelude.{◌≡◌, ℕ, ◌+◌, ◌*◌, ◌<◌, ◌≤◌, List, length}
-use Rattle.house_file.specs.Decoding.{u16_at}
+use Rattle.std.specs.Prelude.{◌≡◌, ℕ, ◌+◌, ◌<◌, ◌≤◌, List, length}
 use Rattle.replay_undo.specs.declared.Vector.{Vector}
 use Rattle.replay_undo.specs.declared.tally.Tally.{Tally}
-use Rattle.replay_undo.specs.Places.{part_of}
+use Rattle.replaying.specs.Places.{number_at, part_of}
 use Rattle.replay_undo.specs.Tallies.{nothing_counted}
 use Rattle.replay_undo.specs.Attempts.{Attempt}
-
-abbrev pub number_at : List ℕ → ℕ → ℕ
-number_at b at = u16_at b at + 65536 * u16_at b (at + 2)
 
 abbrev pub answer_at : List ℕ → ℕ → ℕ
 answer_at b at = at + 4 + number_at b at

@@ -2,12 +2,11 @@
 --
 --   system_counted t         one more system that was fused
 --   words_counted t c n      c of n words returned; values_counted, so of operand values; definitions_counted, of definitions that hold
---   refusal_counted t c n    one more answer, right where c is n
+--   answer_counted t b       one more answer, right where b says so
 --
 -- Assumes nothing.
-use Rattle.std.specs.Prelude.{ℕ, ◌+◌, ◌-◌, ◌%◌, ◌^◌}
+use Rattle.std.specs.Prelude.{ℕ, Bool, cond, ◌+◌, ◌-◌, ◌%◌, ◌^◌}
 use Rattle.replay_undo.specs.declared.tally.Tally.{Tally}
-use Rattle.replay_undo.specs.Places.{same_of}
 
 abbrev pub nothing_counted : Tally
 nothing_counted =
@@ -76,8 +75,8 @@ definitions_counted t same n digest =
       digest = digest;
     }
 
-abbrev pub refusal_counted : Tally → ℕ → ℕ → Tally
-refusal_counted t same n =
+abbrev pub answer_counted : Tally → Bool → Tally
+answer_counted t is_right =
     record {
       systems = t.systems;
       returned = t.returned;
@@ -86,7 +85,7 @@ refusal_counted t same n =
       unequal = t.unequal;
       hold = t.hold;
       broken = t.broken;
-      right = sum_of t.right (same_of same n);
-      wrong = sum_of t.wrong (1 - same_of same n);
+      right = sum_of t.right (cond is_right 1 0);
+      wrong = sum_of t.wrong (cond is_right 0 1);
       digest = t.digest;
     }

@@ -8,21 +8,18 @@
 --   definitions_seen     these counted, and all values digested
 --   same_values          how many values of And, Imul, Bmul and Zero are the same in both lists, up to the order of the rows
 --   compared_of          the values of a patched system against those before, counted
---   code_of              the count of an answer, or 10,000 and the number of a refusal
 --
 -- Assumes nothing.
-use Rattle.std.specs.Prelude.{ℕ, ◌+◌, ◌*◌, List, slice_index}
+use Rattle.std.specs.Prelude.{ℕ, ◌+◌, ◌*◌, min, List, slice_index}
 use Rattle.lower.specs.declared.Sizes.{Sizes}
 use Rattle.fusion.specs.declared.Counts.{Counts}
-use Rattle.evaluate.specs.declared.Evaluated.{Evaluated}
-use Rattle.evaluate.specs.declared.Evaluated.TheVariants.{Done, Refused}
 use Rattle.replay_undo.specs.declared.tally.Tally.{Tally}
 use Rattle.replay_undo.specs.declared.values.Places.{Places}
-use Rattle.replay_undo.specs.Places.{least_of, turns, same_of, same_rows, digest_of}
+use Rattle.replay_undo.specs.Places.{turns, same_of, same_rows, digest_of}
 use Rattle.replay_undo.specs.Tallies.{system_counted, values_counted, definitions_counted}
 
 abbrev pub rows_of : ℕ → ℕ
-rows_of n = least_of n 1024
+rows_of n = min n 1024
 
 unfoldable pub places_of : Sizes → Places
 places_of z =
@@ -65,7 +62,3 @@ same_values a b z =
 unfoldable pub compared_of : List ℕ → List ℕ → Sizes → List ℕ → List ℕ → Tally → Tally
 compared_of out values z dsts words t =
     definitions_seen dsts out z words (values_counted (system_counted t) (same_values out values z) (places_of z).linears)
-
-abbrev pub code_of : Evaluated → ℕ
-code_of (Done count) = count
-code_of (Refused number) = 10000 + number

@@ -1,233 +1,90 @@
 // The system of a house file under one assignment, in stores that are made for it.
-ghost use Rattle.std.specs.Prelude.{[]};
-ghost use Rattle.lower.specs.Stores.{stores};
-ghost use Rattle.replay_undo.specs.Attempts.{OnFlags, WithFlags, WithValues, OnWords, WithWords, FromRead, Attempt};
+ghost use Rattle.lower.specs.Stores.{stores_of};
+ghost use Rattle.replay_undo.specs.Attempts.{WithFlags, WithValues, WithWords, Attempt};
 
 use crate::tally::Tally;
-use crate::{back, patched, places, tally, values, words};
-use house_file::Read;
-use lower::Sizes;
+use crate::values::Assigned;
+use crate::{back, patched, values, words};
+use lower::LentSystem;
+use operand::TermStores;
+use replaying::UNTOUCHED;
 
-// Fuses a copy, which leaves the flags; then fills back over the originals.
-fn on_flags(
-    file: &[u8],
-    slots: u64,
-    old: &[u64],
-    ands: &[u64],
-    imuls: &[u64],
-    bmuls: &[u64],
-    zeros: &[u64],
-    dsts: &[u16],
-    rhss: &[u64],
-    z: Sizes,
-    words: &[u64],
-    values: &[u64],
-    flags: &mut [u8],
-    t: Tally,
-) -> Tally
-    ensures { OnFlags file.now slots z (stores old.now [] ands.now imuls.now bmuls.now zeros.now dsts.now rhss.now) words.now values.now flags.old flags.new t result }
-{
-    let u = patched::patched(file, slots, z, words, values, &mut *flags, t);
-    let v = back::undo(
-        old, ands, imuls, bmuls, zeros, dsts, rhss, z, &*flags, words, u,
-    );
-    back::evaluations(
-        old, ands, imuls, bmuls, zeros, dsts, rhss, z, words, values, v,
-    )
+// A house file, the slots to fuse it with, and the seed of its words.
+#[derive(Clone, Copy)]
+pub struct Case<'a> {
+    pub file: &'a [u8],
+    pub slots: u64,
+    pub seed: u64,
 }
 
-// As many flags as words.
-fn with_flags(
-    file: &[u8],
-    slots: u64,
-    old: &[u64],
-    ands: &[u64],
-    imuls: &[u64],
-    bmuls: &[u64],
-    zeros: &[u64],
-    dsts: &[u16],
-    rhss: &[u64],
-    z: Sizes,
-    words: &[u64],
-    values: &[u64],
-    t: Tally,
-) -> Tally
-    ensures { WithFlags file.now slots z (stores old.now [] ands.now imuls.now bmuls.now zeros.now dsts.now rhss.now) words.now values.now t result }
+// Fuses a copy, which leaves the flags, as many as words; then fills back over the originals.
+fn with_flags(case: &Case<'_>, system: &LentSystem<'_>, assigned: &Assigned<'_>, t: &mut Tally)
+    ensures { WithFlags case.now.file.now case.now.slots system.now.sizes (stores_of system.now) assigned.now.words.now assigned.now.values.now t.old t.new }
 {
-    let n = places::least(words.len(), lower::MAX_WIRES);
+    let n = assigned.words.len().min(lower::MAX_WIRES);
     let mut flags = [7u8; lower::MAX_WIRES];
-    on_flags(
-        file,
-        slots,
-        old,
-        ands,
-        imuls,
-        bmuls,
-        zeros,
-        dsts,
-        rhss,
-        z,
+    let flags = &mut flags[..n];
+    patched::patched(case, system.sizes, assigned, flags, t);
+    back::undo(system, flags, assigned.words, t);
+    back::evaluations(system, assigned, t);
+}
+
+fn with_values(case: &Case<'_>, system: &LentSystem<'_>, words: &[u64], t: &mut Tally)
+    ensures { WithValues case.now.file.now case.now.slots system.now.sizes (stores_of system.now) words.now t.old t.new }
+{
+    let mut out = [UNTOUCHED; values::MAX_VALUES];
+    let _ = evaluate::evaluate(system, words, &mut out);
+    let assigned = Assigned {
         words,
-        values,
-        &mut flags[0..n],
-        t,
-    )
+        values: &out,
+    };
+    values::see_definitions(system, &assigned, t);
+    with_flags(case, system, &assigned, t);
 }
 
-fn with_values(
-    file: &[u8],
-    slots: u64,
-    old: &[u64],
-    ands: &[u64],
-    imuls: &[u64],
-    bmuls: &[u64],
-    zeros: &[u64],
-    dsts: &[u16],
-    rhss: &[u64],
-    z: Sizes,
-    words: &[u64],
-    t: Tally,
-) -> Tally
-    ensures { WithValues file.now slots z (stores old.now [] ands.now imuls.now bmuls.now zeros.now dsts.now rhss.now) words.now t result }
+// As many words as wires. Filled back with no wire committed, all definitions hold.
+fn with_words(case: &Case<'_>, kind: usize, system: &LentSystem<'_>, t: &mut Tally)
+    ensures { WithWords case.now.file.now case.now.slots case.now.seed kind system.now.sizes (stores_of system.now) t.old t.new }
 {
-    let mut out = [places::UNTOUCHED; values::MAX_VALUES];
-    evaluate::evaluate(
-        old,
-        &old[0..0],
-        ands,
-        imuls,
-        bmuls,
-        zeros,
-        dsts,
-        rhss,
-        z,
-        words,
-        &mut out,
-    );
-    let u = values::definitions_seen(dsts, &out, z, words, t);
-    with_flags(
-        file, slots, old, ands, imuls, bmuls, zeros, dsts, rhss, z, words, &out, u,
-    )
-}
-
-// Filled back with no wire committed, all definitions hold.
-fn on_words(
-    file: &[u8],
-    slots: u64,
-    seed: u64,
-    kind: usize,
-    old: &[u64],
-    ands: &[u64],
-    imuls: &[u64],
-    bmuls: &[u64],
-    zeros: &[u64],
-    dsts: &[u16],
-    rhss: &[u64],
-    z: Sizes,
-    none: &[u8],
-    words: &mut [u64],
-    t: Tally,
-) -> Tally
-    ensures { OnWords file.now slots seed kind z (stores old.now [] ands.now imuls.now bmuls.now zeros.now dsts.now rhss.now) none.now words.old words.new t result }
-{
-    words::make(&mut *words, kind, seed);
-    fill_back::fill_back(
-        old,
-        ands,
-        imuls,
-        bmuls,
-        zeros,
-        dsts,
-        rhss,
-        z,
-        none,
-        &mut *words,
-    );
-    with_values(
-        file, slots, old, ands, imuls, bmuls, zeros, dsts, rhss, z, &*words, t,
-    )
-}
-
-// As many words as wires.
-fn with_words(
-    file: &[u8],
-    slots: u64,
-    seed: u64,
-    kind: usize,
-    old: &[u64],
-    ands: &[u64],
-    imuls: &[u64],
-    bmuls: &[u64],
-    zeros: &[u64],
-    dsts: &[u16],
-    rhss: &[u64],
-    z: Sizes,
-    t: Tally,
-) -> Tally
-    ensures { WithWords file.now slots seed kind z (stores old.now [] ands.now imuls.now bmuls.now zeros.now dsts.now rhss.now) t result }
-{
-    let n = places::least(z.wires, lower::MAX_WIRES);
+    let n = system.sizes.wires.min(lower::MAX_WIRES);
     let none = [0u8; lower::MAX_WIRES];
     let mut words = [0u64; lower::MAX_WIRES];
-    on_words(
-        file,
-        slots,
-        seed,
-        kind,
-        old,
-        ands,
-        imuls,
-        bmuls,
-        zeros,
-        dsts,
-        rhss,
-        z,
-        &none[0..n],
-        &mut words[0..n],
-        t,
-    )
+    let words = &mut words[..n];
+    words::make(words, kind, case.seed);
+    let _ = fill_back::fill_back(system, &none[..n], words);
+    with_values(case, system, words, t);
 }
 
 // A house file that is not read is not answered as it has to be.
-fn from_read(
-    read: Read,
-    file: &[u8],
-    slots: u64,
-    seed: u64,
-    kind: usize,
-    old: &[u64],
-    ands: &[u64],
-    imuls: &[u64],
-    bmuls: &[u64],
-    zeros: &[u64],
-    dsts: &[u16],
-    rhss: &[u64],
-    t: Tally,
-) -> Tally
-    ensures { FromRead file.now slots seed kind (stores old.now [] ands.now imuls.now bmuls.now zeros.now dsts.now rhss.now) t read result }
+pub fn attempt(case: &Case<'_>, kind: usize, t: &mut Tally)
+    ensures { Attempt case.now.file.now case.now.slots case.now.seed kind t.old t.new }
 {
-    match read {
-        Read::Refused { number: _, at: _ } => tally::refusal_counted(t, 0, 1),
-        Read::Done { sizes, terms: _ } => with_words(
-            file, slots, seed, kind, old, ands, imuls, bmuls, zeros, dsts, rhss, sizes, t,
-        ),
-    }
-}
-
-pub fn attempt(file: &[u8], slots: u64, seed: u64, kind: usize, t: Tally) -> Tally
-    ensures { Attempt file.now slots seed kind t result }
-{
-    let mut terms = [places::UNTOUCHED; 8192];
-    let mut ands = [places::UNTOUCHED; 3072];
-    let mut imuls = [places::UNTOUCHED; 4096];
-    let mut bmuls = [places::UNTOUCHED; 6144];
-    let mut zeros = [places::UNTOUCHED; 1024];
+    let mut terms = [UNTOUCHED; 8192];
+    let mut ands = [UNTOUCHED; 3072];
+    let mut imuls = [UNTOUCHED; 4096];
+    let mut bmuls = [UNTOUCHED; 6144];
+    let mut zeros = [UNTOUCHED; 1024];
     let mut dsts = [7u16; 1024];
-    let mut rhss = [places::UNTOUCHED; 1024];
-    let read = house_read::read(
-        file, &mut terms, &mut ands, &mut imuls, &mut bmuls, &mut zeros, &mut dsts, &mut rhss,
+    let mut rhss = [UNTOUCHED; 1024];
+    let answer = house_read::read(
+        case.file, &mut terms, &mut ands, &mut imuls, &mut bmuls, &mut zeros, &mut dsts, &mut rhss,
     );
-    from_read(
-        read, file, slots, seed, kind, &terms, &ands, &imuls, &bmuls, &zeros, &dsts, &rhss, t,
-    )
+    let Ok(read) = answer else {
+        t.count_answer(false);
+        return;
+    };
+    let system = LentSystem {
+        stores: TermStores {
+            old: &terms,
+            new: &[],
+        },
+        ands: &ands,
+        imuls: &imuls,
+        bmuls: &bmuls,
+        zeros: &zeros,
+        dsts: &dsts,
+        rhss: &rhss,
+        sizes: read.sizes,
+    };
+    with_words(case, kind, &system, t);
 }

@@ -1,54 +1,16 @@
 // Stores, place by place: compared, digested, written.
-ghost use Rattle.std.specs.Prelude.{◌≡◌, ◌+◌, ◌*◌, ◌^◌, ◌<◌, ◌≤◌, slice_index, slice_set};
-ghost use Rattle.replay_undo.specs.Places.{least_of, part_of, same_of, same_places, mixed, digest_of, row_mixed, rows_mixed, same_rows};
+ghost use Rattle.std.specs.Prelude.{◌≡◌, ◌==◌, ◌+◌, ◌*◌, ◌^◌, ◌<◌, ◌≤◌, slice_index_or, slice_set};
+ghost use Rattle.replay_undo.specs.Places.{same_of, same_places, mixed, digest_of, row_mixed, rows_mixed, same_rows};
 
-// What stands in each store before anything is put there.
-pub const UNTOUCHED: u64 = 7;
-
-pub fn least(a: usize, b: usize) -> usize
-    ensures { (result ≡ least_of a b) × (result ≤ b) × (result ≤ a) }
+// What stands at place `i`, or `otherwise` past the end.
+pub fn get<T: Copy>(l: &[T], i: usize, otherwise: T) -> T
+    ensures { result ≡ slice_index_or l.now i otherwise }
 {
-    if a < b {
-        return a;
-    }
-    b
-}
-
-// A part of some bytes; empty where it is none.
-pub fn part<'a>(input: &'a [u8], begin: usize, end: usize) -> &'a [u8]
-    ensures { result.now ≡ part_of input.now begin end }
-{
-    if end < begin {
-        return &input[0..0];
-    }
-    if input.len() < end {
-        return &input[0..0];
-    }
-    &input[begin..end]
-}
-
-// The number at place `i`, 0 past the end.
-pub fn get(l: &[u64], i: usize) -> u64
-    ensures { result ≡ slice_index l.now i }
-{
-    if i < l.len() {
-        return l[i];
-    }
-    0
-}
-
-// The same of destinations.
-pub fn destination(dsts: &[u16], i: usize) -> u16
-    ensures { result ≡ slice_index dsts.now i }
-{
-    if i < dsts.len() {
-        return dsts[i];
-    }
-    0
+    l.get(i).copied().unwrap_or(otherwise)
 }
 
 // Past the end nothing is put.
-pub fn put(l: &mut [u64], i: usize, x: u64)
+pub fn put<T: Copy>(l: &mut [T], i: usize, x: T)
     ensures { l.new ≡ slice_set l.old i x }
 {
     if i < l.len() {
@@ -59,10 +21,7 @@ pub fn put(l: &mut [u64], i: usize, x: u64)
 pub fn same(a: u64, b: u64) -> usize
     ensures { (result ≡ same_of a b) × (result ≤ 1) }
 {
-    if a == b {
-        return 1;
-    }
-    0
+    usize::from(a == b)
 }
 
 // How many of the `n` places from `from` on are the same.
@@ -70,11 +29,9 @@ pub fn same_numbers(a: &[u64], b: &[u64], from: usize, n: usize) -> usize
     requires { from + n < 2 ^ 64 }
     ensures { (result ≡ same_places a.now b.now from n) × (result ≤ n) }
 {
-    let mut i = 0;
     let mut c = 0;
-    while i < n {
-        c += same(get(a, from + i), get(b, from + i));
-        i += 1;
+    for i in 0..n {
+        c += same(get(a, from + i, 0), get(b, from + i, 0));
     }
     c
 }
@@ -89,11 +46,9 @@ pub fn mix(digest: u64, x: u64) -> u64
 pub fn digest_of(l: &[u64], n: usize, start: u64) -> u64
     ensures { result ≡ digest_of l.now n start }
 {
-    let mut i = 0;
     let mut digest = start;
-    while i < n {
-        digest = mix(digest, get(l, i));
-        i += 1;
+    for i in 0..n {
+        digest = mix(digest, get(l, i, 0));
     }
     digest
 }
@@ -103,11 +58,9 @@ fn row_mixed(l: &[u64], at: usize, k: usize, start: u64) -> u64
     requires { at + k < 2 ^ 64 }
     ensures { result ≡ row_mixed l.now at k start }
 {
-    let mut i = 0;
     let mut digest = start;
-    while i < k {
-        digest = mix(digest, get(l, at + i));
-        i += 1;
+    for i in 0..k {
+        digest = mix(digest, get(l, at + i, 0));
     }
     mix(digest, start)
 }
@@ -117,25 +70,29 @@ fn rows_mixed(l: &[u64], at: usize, rows: usize, k: usize, start: u64) -> u64
     requires { (at < 2 ^ 32) × (rows ≤ 1024) × (k ≤ 6) }
     ensures { result ≡ rows_mixed l.now at rows k start }
 {
-    let mut i = 0;
-    let mut sum = 0;
-    while i < rows {
-        sum = std::num::wrapping_add_u64(sum, row_mixed(l, at + i * k, k, start));
-        i += 1;
+    let mut sum: u64 = 0;
+    for i in 0..rows {
+        sum = sum.wrapping_add(row_mixed(l, at + i * k, k, start));
     }
     sum
 }
 
+fn same_sums(a: &[u64], b: &[u64], at: usize, rows: usize, k: usize, start: u64) -> bool
+    requires { (at < 2 ^ 32) × (rows ≤ 1024) × (k ≤ 6) }
+    ensures { result ≡ (rows_mixed a.now at rows k start == rows_mixed b.now at rows k start) }
+{
+    rows_mixed(a, at, rows, k, start) == rows_mixed(b, at, rows, k, start)
+}
+
 // All numbers of so many rows where each row of the one list has its own in the other, else 0: by two digests.
+#[tactic(auto, using(crate::proofs::Turns::rows_small), unfolding(crate::specs::Places::same_rows))]
 pub fn same_rows(a: &[u64], b: &[u64], at: usize, rows: usize, k: usize) -> usize
     requires { (at < 2 ^ 32) × (rows ≤ 1024) × (k ≤ 6) }
     ensures { (result ≡ same_rows a.now b.now at rows k) × (result ≤ rows * k) }
 {
-    if rows_mixed(a, at, rows, k, 738274635291) != rows_mixed(b, at, rows, k, 738274635291) {
-        return 0;
+    if same_sums(a, b, at, rows, k, 738274635291) && same_sums(a, b, at, rows, k, 915283746102) {
+        rows * k
+    } else {
+        0
     }
-    if rows_mixed(a, at, rows, k, 915283746102) != rows_mixed(b, at, rows, k, 915283746102) {
-        return 0;
-    }
-    rows * k
 }

@@ -1,9 +1,10 @@
 // Assignments: made, and overwritten where filling back has to make them good.
-ghost use Rattle.std.specs.Prelude.{◌≡◌, ◌<◌, length, slice_set};
+ghost use Rattle.std.specs.Prelude.{◌≡◌, length};
 ghost use Rattle.replay_undo.specs.Words.{random_of, word_at, made_words, disturbed, overwritten, laid_flags};
 
 use crate::places;
 
+#[tactic(auto, unfolding(crate::specs::Words::random_of))]
 fn random(seed: u64, i: u64) -> u64
     ensures { result ≡ random_of seed i }
 {
@@ -19,7 +20,7 @@ fn word(kind: usize, seed: u64, i: usize) -> u64
 {
     match kind {
         0 => 0,
-        1 => 18446744073709551615,
+        1 => u64::MAX,
         _ => random(places::mix(seed, kind as u64), i as u64),
     }
 }
@@ -27,42 +28,30 @@ fn word(kind: usize, seed: u64, i: usize) -> u64
 pub fn make(words: &mut [u64], kind: usize, seed: u64)
     ensures { words.new ≡ made_words kind seed (length words.old) words.old }
 {
-    let mut i = 0;
-    while i < words.len() {
+    for i in 0..words.len() {
         words[i] = word(kind, seed, i);
-        i += 1;
     }
 }
 
 // The word becomes another one, unless its wire is committed.
-fn disturb(words: &mut [u64], w: usize, flag: usize)
+#[tactic(auto, unfolding(crate::specs::Words::disturbed))]
+fn disturb(words: &mut [u64], w: usize, flag: u8)
     ensures { words.new ≡ disturbed w flag words.old }
 {
     if flag != 0 {
         return;
     }
-    let x = std::num::wrapping_add_u64(places::get(&*words, w), 11400714819323198485);
-    places::put(&mut *words, w, x);
+    let x = places::get(words, w, 0).wrapping_add(11400714819323198485);
+    places::put(words, w, x);
 }
 
 // The words of all uncommitted defined wires.
 pub fn overwrite(words: &mut [u64], dsts: &[u16], n: usize, flags: &[u8])
     ensures { words.new ≡ overwritten dsts.now flags.now n words.old }
 {
-    let mut i = 0;
-    while i < n {
-        let w = places::destination(dsts, i) as usize;
-        disturb(&mut *words, w, house_file::byte(flags, w));
-        i += 1;
-    }
-}
-
-fn lay(to: &mut [u8], w: usize, flag: usize)
-    requires { flag < 256 }
-    ensures { to.new ≡ slice_set to.old w flag }
-{
-    if w < to.len() {
-        to[w] = flag as u8;
+    for i in 0..n {
+        let w = usize::from(places::get(dsts, i, 0));
+        disturb(words, w, places::get(flags, w, 0));
     }
 }
 
@@ -70,10 +59,8 @@ fn lay(to: &mut [u8], w: usize, flag: usize)
 pub fn lay_flags(to: &mut [u8], dsts: &[u16], n: usize, flags: &[u8])
     ensures { to.new ≡ laid_flags dsts.now flags.now n to.old }
 {
-    let mut i = 0;
-    while i < n {
-        let w = places::destination(dsts, i) as usize;
-        lay(&mut *to, w, house_file::byte(flags, w));
-        i += 1;
+    for i in 0..n {
+        let w = usize::from(places::get(dsts, i, 0));
+        places::put(to, w, places::get(flags, w, 0));
     }
 }

@@ -1,49 +1,31 @@
--- What reading and fusing come to: built from what each answered, and what a system that was fused is known to be. Assumes nothing.
+-- What a system that was fused is known to be. Assumes nothing.
 use mathlib.Core.Path.{◌≡◌, refl, sym, ◌∙◌}
 use Prim.Native.Nat.{ℕ, ◌+◌, ◌≤◌}
 use native.Mathlib.Omega.{arith}
 use mathlib.Core.List.{List}
 use lib.ListN.{length}
+use Rattle.std.specs.Prelude.{Result, Ok}
 use Rattle.word.specs.Answers.{Told}
 use Rattle.lower.specs.declared.Sizes.{Sizes}
 use Rattle.lower.specs.Accepted.{NoCircle}
 use Rattle.lower.specs.Stores.{system_of}
 use Rattle.lower.proofs.Laws.{linears_length}
 use Rattle.lower.proofs.Checks.{checked, memory_places}
-use Rattle.house_file.specs.declared.Read.{Read}
-use Rattle.house_file.specs.declared.Read.TheVariants as R
 use Rattle.commit_set.specs.declared.Decision.{Decision}
 use Rattle.commit_set.specs.Answer.{decision_fault}
 use Rattle.commit_set.proofs.Answers.{memory_none}
 use Rattle.commit_set.proofs.Theorem.{decided_accepted}
 use Rattle.patch.specs.Patch.{commit_set}
 use Rattle.fusion.specs.declared.Counts.{Counts}
-use Rattle.fusion.specs.declared.Fused.{Fused}
-use Rattle.fusion.specs.declared.Fused.TheVariants as F
 use Rattle.fusion.specs.Left.{Lent, input, fused, counts_of}
 use Rattle.fusion.specs.Answer.{told_fused, Patches, Fuses, refused, circular, short, patches}
 use Rattle.fusion.proofs.System.{room}
 use Rattle.fusion.proofs.Once.{fused_counts}
-use Rattle.report.specs.declared.outcome.Outcome.{Outcome}
-use Rattle.report.specs.declared.outcome.Outcome.TheVariants as O
+use Rattle.report.specs.declared.outcome.FusedSystem.{FusedSystem}
+use Rattle.report.specs.declared.outcome.Fault.{Fault}
 use Rattle.report.specs.Outcome as C
-use Rattle.report.specs.Outcome.{ReadLent, Comes}
-use Rattle.report.specs.Steps.{outcome_of, FusesRead, unread, read, Tallied}
-
--- ---- built from what each answered
-
-module _ (slots : ℕ) (l l' : Lent) (x : Read) (o : Outcome) where
-  pub not_read : (number at : ℕ) → x ≡ R.Refused number at → o ≡ O.Unread number at → l' ≡ l → FusesRead slots l l' x o
-  not_read number at p q e = rw (p, q, e) unread
-
-  pub was_read : (z : Sizes) (n : ℕ) (a : Fused) → x ≡ R.Done z n → Fuses slots z l l' (told_fused a) → o ≡ outcome_of z a → FusesRead slots l l' x o
-  was_read z n a p h q = rw (p, q) (read a h)
-
-pub comes_from : {slots : ℕ} {bytes : List ℕ} {l m l' : Lent} {r : Read} {o : Outcome} → ReadLent bytes l r m → FusesRead slots m l' r o → Comes slots bytes l o l'
-unfolding told_fused
-comes_from a unread = C.unread a
-comes_from a (read (F.Refused number) f) = C.unfused a f
-comes_from a (read (F.Done k) f) = C.fused a f
+use Rattle.report.specs.Outcome.{Comes}
+use Rattle.report.specs.Steps.{Tallied}
 
 -- ---- a system that was fused
 
@@ -54,7 +36,7 @@ pub record FusedDone (slots : ℕ) (z : Sizes) (l l' : Lent) (k : Counts) : Type
   pub patched : Patches slots z l l' st
   pub counts : k ≡ counts_of (fused z l) (commit_set (fused z l) st)
 
-pub told_once : (k n : Counts) → told_fused (F.Done k) ≡ told_fused (F.Done n) → k ≡ n
+pub told_once : (k n : Counts) → told_fused (Ok k) ≡ told_fused (Ok n) → k ≡ n
 unfolding told_fused
 told_once k n e = same k.gone k.stranded k.committed k.written k.kept n.gone n.stranded n.committed n.written n.kept (cc) (cc) (cc) (cc) (cc)
   where
@@ -63,15 +45,15 @@ told_once k n e = same k.gone k.stranded k.committed k.written k.kept n.gone n.s
     same a b c d e f g h i j p q r s t = rw (p, q, r, s, t)
 
 module _ (slots : ℕ) (z : Sizes) (l l' : Lent) (k : Counts) where
-  from_told : (t : Told) → Fuses slots z l l' t → t ≡ told_fused (F.Done k) → FusedDone slots z l l' k
+  from_told : (t : Told) → Fuses slots z l l' t → t ≡ told_fused (Ok k) → FusedDone slots z l l' k
   unfolding told_fused
   from_told t (refused e h q) p = absurd (let x : ◌≡◌ {A = ℕ} 0 1 = cc in omega arith)
   from_told t (circular f w c q) p = absurd (let x : ◌≡◌ {A = ℕ} 0 1 = cc in omega arith)
   from_told t (short f n st s h q) p = absurd (let x : ◌≡◌ {A = ℕ} 0 1 = cc in omega arith)
   from_told t (patches f n st y) p = record { st = st; no_fault = f; no_circle = n; patched = y; counts = told_once k _ (sym p) }
 
-  pub fused_done : Fuses slots z l l' (told_fused (F.Done k)) → FusedDone slots z l l' k
-  fused_done h = from_told (told_fused (F.Done k)) h refl
+  pub fused_done : Fuses slots z l l' (told_fused (Ok k)) → FusedDone slots z l l' k
+  fused_done h = from_told (told_fused (Ok k)) h refl
 
   -- "Definitions before = gone + stranded + committed"
   pub done_counts : FusedDone slots z l l' k → z.linears ≡ k.gone + k.stranded + k.committed
@@ -85,9 +67,9 @@ module _ (slots : ℕ) (z : Sizes) (l l' : Lent) (k : Counts) where
   unfolding system_of
   done_wires d = (room (fused z l) (commit_set (fused z l) d.st) l d.patched.fits).flags_long
 
-pub comes_tallied : {slots : ℕ} {bytes : List ℕ} {l l' : Lent} {o : Outcome} → Comes slots bytes l o l' → length l.flags ≡ 4096 → Tallied o
+pub comes_tallied : {slots : ℕ} {bytes : List ℕ} {l l' : Lent} {o : Result FusedSystem Fault} → Comes slots bytes l o l' → length l.flags ≡ 4096 → Tallied o
 comes_tallied (C.unread a) h = tt
 comes_tallied (C.unfused a f) h = tt
-comes_tallied {slots} (C.fused {z} {n} {k} {m} {l'} a f) h =
-    let d = fused_done slots z m l' k f in
-    (omega (arith, done_counts slots z m l' k d), rw (a.flags_same, h) at (done_wires slots z m l' k d))
+comes_tallied {slots} (C.fused {x} {k} {m} {l'} a f) h =
+    let d = fused_done slots x.sizes m l' k f in
+    (omega (arith, done_counts slots x.sizes m l' k d), rw (a.flags_same, h) at (done_wires slots x.sizes m l' k d))

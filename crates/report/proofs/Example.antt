@@ -17,9 +17,9 @@ use Rattle.lower.specs.Model.{System, row_operands, definition_operands}
 use Rattle.lower.specs.Accepted.{NoCircle}
 use Rattle.lower.specs.Faults.{term_fault, definition_fault}
 use Rattle.house_file.specs.Format.{Entry, arity, system_from}
-use Rattle.house_file.specs.Decoding.{u16_at, term_at, terms_at, operands_at, operands_next_lem, operands_terms, operands_start, entry_at, entries_at}
+use Rattle.house_file.specs.Decoding.{u16_at, term_at, terms_at, operands_at, operands_next, operands_terms, operands_start, entry_at, entries_at}
 use Rattle.house_file.specs.Reading.{head_fault, operand_fault, operands_fault, destination_fault, payload_fault, counted, full_fault, counts_after, field_fault, turn_by, turn_of, read_from, wires_fault, read_of}
-use Rattle.house_file.specs.declared.Read.TheVariants as R
+use Rattle.house_file.specs.declared.FileRead.{FileRead}
 use Rattle.house_fill.specs.Layout.{terms_laid, list_laid, destinations_laid}
 use Rattle.house_read.specs.Answer.{room_of}
 use Rattle.house_read.proofs.Answers.{room_done, answer_tells}
@@ -42,14 +42,13 @@ use Rattle.patch.specs.Patch as Patch
 use Rattle.patch.specs.Patch.{committed_at, commit_set, inlined, depth, expand_term, expand_operand, met_term, met_operand, rebuilt, row_rebuilds, rebuilds, written, terms_written, all_met, is_gone, gone, is_stranded, stranded, kept}
 use Rattle.patch.proofs.Parts.{clash}
 use Rattle.fusion.specs.declared.Counts.{Counts}
-use Rattle.fusion.specs.declared.Fused.TheVariants.{Done}
+use Rattle.std.specs.Prelude.{Ok}
 use Rattle.fusion.specs.Left as Left
 use Rattle.fusion.specs.Left.{Lent, lent, input, has_room, counts_of, leaves}
 use Rattle.fusion.specs.Answer.{told_fused, Fuses}
 use Rattle.fusion.proofs.Closing.{fuses_patched}
 use Rattle.text.specs.Decimal.{decimal_by, decimal}
 use Rattle.text.specs.Text.{values_text, ok_text}
-use Rattle.report.specs.declared.outcome.Outcome.TheVariants as O
 use Rattle.report.specs.Report.{Reports, answers}
 use Rattle.report.specs.Outcome.{made, ReadLent, Comes, fused}
 use Rattle.report.proofs.Theorem.{said_by}
@@ -66,6 +65,9 @@ bytes =
 abbrev sizes : Sizes
 sizes = record { wires = 3; ands = 0; imuls = 0; bmuls = 0; zeros = 1; linears = 2 }
 
+abbrev read : FileRead
+read = record { sizes = sizes; terms = 3 }
+
 abbrev term : ℕ → ℕ → Term
 term w i = record { wire = w; inner = i; outer = 0 }
 
@@ -81,12 +83,12 @@ original =
       linears = record { dst = 1; rhs = term 2 40 ∷ [] } ∷ record { dst = 2; rhs = term 0 0 ∷ [] } ∷ [];
     }
 
-is_read : read_of bytes ≡ R.Done sizes 3
-unfolding read_of wires_fault head_fault u16_at arity operand_fault operands_fault destination_fault payload_fault counted full_fault counts_after field_fault turn_by turn_of read_from term_fault term_at terms_at operands_next_lem operands_terms operands_start
+is_read : read_of bytes ≡ Ok read
+unfolding read_of wires_fault head_fault u16_at arity operand_fault operands_fault destination_fault payload_fault counted full_fault counts_after field_fault turn_by turn_of read_from term_fault term_at terms_at operands_next operands_terms operands_start
 is_read = refl
 
 said : said_by bytes sizes ≡ original
-unfolding system_from entries_at entry_at operands_at operands_next_lem operands_start u16_at arity term_at terms_at
+unfolding system_from entries_at entry_at operands_at operands_next operands_start u16_at arity term_at terms_at
 said = refl
 
 -- ---- no circle, no fault
@@ -137,7 +139,7 @@ told = refl
 
 -- ---- fused, whatever the stores were
 
-module _ (m : Lent) (a : ReadLent bytes (made 4096) (R.Done sizes 3) m) where
+module _ (m : Lent) (a : ReadLent bytes (made 4096) (Ok read) m) where
   stands : Left.fused sizes m ≡ original
   stands = read_back sizes 3 a.reads refl ∙ said
 
@@ -151,12 +153,12 @@ module _ (m : Lent) (a : ReadLent bytes (made 4096) (R.Done sizes 3) m) where
   unfolding has_room terms_written written rebuilds row_rebuilds rebuilt Patch.commits expand_operand expand_term inlined depth push_valid compose_valid degenerates chains
   fits = rw (a.flags_same, a.new_same)
 
-  comes : (st : ℕ → Decision) → Solves 2 (Left.fused sizes m) st → commit_set (Left.fused sizes m) st ≡ (λ (w : ℕ). false) → Comes 2 bytes (made 4096) (O.Fused sizes counts) (leaves sizes m (commit_set (Left.fused sizes m) st))
+  comes : (st : ℕ → Decision) → Solves 2 (Left.fused sizes m) st → commit_set (Left.fused sizes m) st ≡ (λ (w : ℕ). false) → Comes 2 bytes (made 4096) (Ok (record { sizes = sizes; counts = counts })) (leaves sizes m (commit_set (Left.fused sizes m) st))
   comes st s e =
       let room : has_room (Left.fused sizes m) (commit_set (Left.fused sizes m) st) m ≡ true = rw (e, stands) fits in
       let k : counts_of (Left.fused sizes m) (commit_set (Left.fused sizes m) st) ≡ counts = rw (e, stands) told in
       fused a
-      (subst (λ (n : Counts). Fuses 2 sizes m (leaves sizes m (commit_set (Left.fused sizes m) st)) (told_fused (Done n))) k
+      (subst (λ (n : Counts). Fuses 2 sizes m (leaves sizes m (commit_set (Left.fused sizes m) st)) (told_fused (Ok n))) k
       (fuses_patched 2 sizes m st no_fault no_circles s room))
 
 -- ---- read into stores that are made for it
@@ -174,11 +176,11 @@ roomy : room_of sizes 3 (length (replicate {A = ℕ} 8192 0)) (length (replicate
 unfolding room_of
 roomy = refl
 
-reads : ReadLent bytes (made 4096) (R.Done sizes 3) after-reading
+reads : ReadLent bytes (made 4096) (Ok read) after-reading
 reads =
     let e = room_done 45 _ _ _ _ _ _ _ is_read roomy in
     record {
-      reads = record { answer = e; tells = answer_tells _ _ _ _ _ _ _ _ _ e; filled = record { terms_are = refl; ands_are = refl; imuls_are = refl; bmuls_are = refl; zeros_are = refl; dsts_are = refl; rhss_are = refl } };
+      reads = record { answer = e; tells = answer_tells _ _ _ _ _ _ _ _ (Ok read) _ e; filled = record { terms_are = refl; ands_are = refl; imuls_are = refl; bmuls_are = refl; zeros_are = refl; dsts_are = refl; rhss_are = refl } };
       new_same = refl;
       flags_same = refl;
     }

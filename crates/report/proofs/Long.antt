@@ -6,13 +6,14 @@ use mathlib.Core.Bool.{Bool, true, false, cond}
 use mathlib.Core.List.{List, [], ◌∷◌}
 use lib.Dec.{eqb}
 use lib.ListN.{length}
+use Rattle.std.specs.Prelude.{Ok}
 use Rattle.operand.specs.Numbers.{Operand}
 use Rattle.lower.specs.declared.Sizes.{Sizes}
 use Rattle.lower.specs.Lists.{All, done, more, sum_of}
 use Rattle.house_file.specs.Format.{Entry, LINEAR, operand_size, payload_size, file_size, arity, EntryOk}
 use Rattle.house_file.specs.Decoding.{entries_at}
 use Rattle.house_file.specs.Reading.{total, read_of}
-use Rattle.house_file.specs.declared.Read.TheVariants.{Done}
+use Rattle.house_file.specs.declared.FileRead.{FileRead}
 use Rattle.house_file.proofs.Sizes.{file_size_lem}
 use Rattle.house_fill.specs.Layout.{terms_count, terms_in_all}
 use Rattle.house_read.proofs.Answers.{read_fits}
@@ -53,19 +54,19 @@ entries_count s zero at = refl
 entries_count s (suc n) at = ap suc (entries_count s n _)
 
 -- 8 bytes, 17 and less for each of 2,048 fields, and 6 for each of 8,192 terms
-pub accepted_short : (s : List ℕ) (z : Sizes) (t : ℕ) → All (λ (b : ℕ). b < 256) s → read_of s ≡ Done z t → length s ≤ 83976
+pub accepted_short : (s : List ℕ) (x : FileRead) → All (λ (b : ℕ). b < 256) s → read_of s ≡ Ok x → length s ≤ 83976
 unfolding file_size
-accepted_short s z t b e =
-    let es = entries_at s (total z) 5 in
-    let k = accepted_entries s z t e in
-    let f = read_fits s z t e in
+accepted_short s x b e =
+    let es = entries_at s (total x.sizes) 5 in
+    let k = accepted_entries s x.sizes x.terms e in
+    let f = read_fits s x e in
     omega (
       arith,
-      ap length (accepted_file s z t e b),
-      file_size_lem z.wires es,
+      ap length (accepted_file s x.sizes x.terms e b),
+      file_size_lem x.sizes.wires es,
       entries_few es k.sound.entries_ok,
-      entries_count s (total z) 5,
-      terms_of_lem z.wires es k.sound.entries_ok,
+      entries_count s (total x.sizes) 5,
+      terms_of_lem x.sizes.wires es k.sound.entries_ok,
       k.sound.limits.terms_few,
       f.0,
       f.1,

@@ -8,6 +8,9 @@ use mathlib.Core.List.{List, [], ◌∷◌, ◌++◌, map}
 use lib.Dec.{leb}
 use lib.ListN.{length, take, drop, set, length-append}
 use lib.Seq.{sets, length-sets, take-take}
+use Rattle.std.specs.Prelude.{Result, Err}
+use Rattle.refusal.specs.declared.Refusal.{Refusal}
+use Rattle.refusal.specs.Refusals.{number_of}
 use Rattle.operand.specs.declared.WireOperand.{WireOperand}
 use Rattle.operand.specs.Numbers.{Operand, operand_at, operand_number, term_number}
 use Rattle.operand.proofs.Stored.{operand_there}
@@ -22,10 +25,10 @@ use Rattle.lower.proofs.Laws.{all_left, all_right, all_both, chunks_flat}
 use Rattle.lower.proofs.Alls.{all_join, all_unjoin}
 use Rattle.lower.proofs.Checks.{checked, placed, memory_places}
 use Rattle.lower.proofs.Explains.{standing_right}
+use Rattle.lower.proofs.Refusals.{number_some}
 use Rattle.house_file.specs.Format.{entries_of, file_size}
 use Rattle.house_file.specs.Reading.{ROOM, WIDE}
-use Rattle.house_write.specs.declared.Written.TheVariants as W
-use Rattle.house_write.specs.Write.{MAX_WRITTEN_TERMS, wide, write_fault, written_by, WriteIs}
+use Rattle.house_write.specs.Write.{MAX_WRITTEN_TERMS, wide, write_fault, WriteIs}
 use Rattle.commit_set.proofs.Answers.{memory_none, slots_few}
 use Rattle.commit_set.proofs.Theorem.{decided_accepted}
 use Rattle.patch.specs.Patch.{commit_set, expand_operand, row_rebuilds, rebuilds, written, terms_written, commits, stays}
@@ -37,13 +40,13 @@ use Rattle.apply.specs.Applied.{kept_rows}
 use Rattle.fusion.specs.declared.Counts.{Counts}
 use Rattle.fusion.specs.Left.{Lent, input, output, fused, is_kept, numbers, ands_end, imuls_end, bmuls_end, zeros_end, leaves}
 use Rattle.fusion.proofs.System.{room}
-use Rattle.report.specs.declared.outcome.Outcome.{Outcome}
-use Rattle.report.specs.declared.outcome.Outcome.TheVariants as O
+use Rattle.report.specs.declared.outcome.FusedSystem.{FusedSystem}
+use Rattle.report.specs.declared.outcome.Fault.{Fault}
 use Rattle.report.specs.Outcome as C
 use Rattle.report.specs.Outcome.{Comes}
 use Rattle.report.specs.File.{after}
 use Rattle.report.proofs.Coming.{FusedDone, fused_done}
-use Rattle.report.proofs.Theorem.{was_patched}
+use Rattle.report.proofs.Theorem.{was_patched, fused_as, same_system}
 
 -- ---- parts of lists, and lists written over
 
@@ -201,26 +204,27 @@ module _ (slots : ℕ) (z : Sizes) (m l : Lent) (k : Counts) (d : FusedDone slot
 
 -- ---- what is left to refuse
 
-two_left : (z : Sizes) (s : Stores) (space : ℕ) → memory_fault MAX_WRITTEN_TERMS z s ≡ 0 → (number m : ℕ) → W.Refused number ≡ written_by (write_fault z s space) m → (number ≡ WIDE) ⊎ (number ≡ ROOM)
-unfolding write_fault written_by
-two_left z s space e number m h = go (wide (system_of z s)) (leb (file_size (entries_of (system_of z s))) space) (rw e at h)
+two_left : (z : Sizes) (s : Stores) (space : ℕ) → memory_fault MAX_WRITTEN_TERMS z s ≡ 0 → (r : Refusal) → number_of r ≡ write_fault z s space → (number_of r ≡ WIDE) ⊎ (number_of r ≡ ROOM)
+unfolding write_fault
+two_left z s space e r h = go (wide (system_of z s)) (leb (file_size (entries_of (system_of z s))) space) (rw e at h)
   where
-    go : (a b : Bool) → W.Refused number ≡ written_by (or_else 0 (or_else (unless (not a) WIDE) (unless b ROOM))) m → (number ≡ WIDE) ⊎ (number ≡ ROOM)
-    go true b q = inl cc
-    go false true q = absurd (let x : ◌≡◌ {A = ℕ} 0 1 = cc in omega arith)
-    go false false q = inr cc
+    go : (a b : Bool) → number_of r ≡ or_else 0 (or_else (unless (not a) WIDE) (unless b ROOM)) → (number_of r ≡ WIDE) ⊎ (number_of r ≡ ROOM)
+    go true b q = inl q
+    go false true q = absurd (number_some r q)
+    go false false q = inr q
 
 -- THE THEOREM. Writing what fusing left refuses nothing but a record that is too wide, and lent bytes that are too few.
-pub fused_refusals : {slots : ℕ} {bytes out out' : List ℕ} {m l : Lent} (z : Sizes) (k : Counts) (number : ℕ) → Comes slots bytes m (O.Fused z k) l
-    → WriteIs (after z k) (output l) out (W.Refused number) out' → (number ≡ WIDE) ⊎ (number ≡ ROOM)
-fused_refusals {slots} {bytes} {out} {out'} {m} {l} z k number h w = go (O.Fused z k) h refl
+pub fused_refusals : {slots : ℕ} {bytes out out' : List ℕ} {m l : Lent} (z : Sizes) (k : Counts) (r : Refusal) → Comes slots bytes m (fused_as z k) l
+    → WriteIs (after z k) (output l) out (Err r) out' → (number_of r ≡ WIDE) ⊎ (number_of r ≡ ROOM)
+fused_refusals {slots} {bytes} {out} {out'} {m} {l} z k r h w = go (fused_as z k) h refl
   where
-    go : (o : Outcome) → Comes slots bytes m o l → o ≡ O.Fused z k → (number ≡ WIDE) ⊎ (number ≡ ROOM)
+    go : (o : Result FusedSystem Fault) → Comes slots bytes m o l → o ≡ fused_as z k → (number_of r ≡ WIDE) ⊎ (number_of r ≡ ROOM)
     go o (C.unread a) e = absurd (let x : ◌≡◌ {A = ℕ} 0 1 = cc in omega arith)
     go o (C.unfused a f) e = absurd (let x : ◌≡◌ {A = ℕ} 0 1 = cc in omega arith)
-    go o (C.fused {z = y} {k = j} {m = i} a f) e =
-        let p : y ≡ z = cc in
-        let q : j ≡ k = cc in
-        let st : Standing (after y j) (output l) MAX_WRITTEN_TERMS = left_standing slots y i l j (fused_done slots y i l j f) in
+    go o (C.fused {x} {k = j} {m = i} a f) e =
+        let s = same_system e in
+        let p : x.sizes ≡ z = ap (λ (y : FusedSystem). y.sizes) s in
+        let q : j ≡ k = ap (λ (y : FusedSystem). y.counts) s in
+        let st : Standing (after x.sizes j) (output l) MAX_WRITTEN_TERMS = left_standing slots x.sizes i l j (fused_done slots x.sizes i l j f) in
         let st₂ : Standing (after z k) (output l) MAX_WRITTEN_TERMS = rw (p, q) at st in
-        two_left (after z k) (output l) (length out) ((standing_right MAX_WRITTEN_TERMS (after z k) (output l)).1 st₂) number _ w.answer
+        two_left (after z k) (output l) (length out) ((standing_right MAX_WRITTEN_TERMS (after z k) (output l)).1 st₂) r w.answer

@@ -7,7 +7,9 @@ use mathlib.Core.List.{List, [], ◌∷◌, ◌++◌, map}
 use lib.ListN.{length, take, drop, length-map, length-append}
 use lib.Seq.{sets, drop_at, length-sets}
 use Rattle.operand.specs.Numbers.{operand_of}
+use Rattle.std.specs.Prelude.{Result, Ok, Err}
 use Rattle.lower.specs.declared.Sizes.{Sizes}
+use Rattle.house_file.specs.declared.FileRead.{FileRead}
 use Rattle.lower.specs.Lists.{keep}
 use Rattle.lower.specs.Model.{System}
 use Rattle.lower.specs.Accepted.{Accepted}
@@ -16,10 +18,8 @@ use Rattle.lower.proofs.Laws.{map-join, rows_length}
 use Rattle.house_file.specs.Format.{system_from, file_of}
 use Rattle.house_file.specs.Decoding.{entries_at}
 use Rattle.house_file.specs.Reading.{total, read_of}
-use Rattle.house_file.specs.declared.Read.TheVariants as R
 use Rattle.house_read.specs.Answer.{ReadIs}
 use Rattle.house_read.proofs.Backs.{answered, read_back}
-use Rattle.house_write.specs.declared.Written.TheVariants as W
 use Rattle.house_write.specs.Write.{WriteIs}
 use Rattle.house_write.proofs.Once.{is_written}
 use Rattle.commit_set.specs.declared.Decision.{Decision}
@@ -30,19 +30,19 @@ use Rattle.patch.specs.Patch as P
 use Rattle.patch.specs.Patch.{commit_set, commits, gone, stranded, terms_written, kept, patched}
 use Rattle.patch.proofs.Counting.{counted}
 use Rattle.fusion.specs.declared.Counts.{Counts}
-use Rattle.fusion.specs.Left.{Lent, input, output, fused, flags_of, counts_of, sizes_after, leaves}
+use Rattle.fusion.specs.Left as Left
+use Rattle.fusion.specs.Left.{Lent, input, output, flags_of, counts_of, sizes_after, leaves}
 use Rattle.fusion.proofs.System.{sets_front, take_front, room}
 use Rattle.text.specs.Text.{ok_text}
 use Rattle.text.specs.Committed.{committed_from}
 use Rattle.text.proofs.Putting.{committed-append}
-use Rattle.report.specs.declared.outcome.Outcome.{Outcome}
-use Rattle.report.specs.declared.outcome.Outcome.TheVariants as O
+use Rattle.report.specs.declared.outcome.FusedSystem.{FusedSystem}
+use Rattle.report.specs.declared.outcome.Fault.{Fault}
+use Rattle.report.specs.declared.FusedFile.{FusedFile}
 use Rattle.report.specs.Outcome as C
 use Rattle.report.specs.Outcome.{made, Comes, nine_of, told_outcome}
 use Rattle.report.specs.Report.{RESULT_TERMS, line_of, Answered}
-use Rattle.report.specs.declared.FuseFile.{FuseFile}
-use Rattle.report.specs.declared.FuseFile.TheVariants.{Done}
-use Rattle.report.specs.File.{after, WritesOut, unread, unfused, short, unwritten, written, FusesFile, long, looked}
+use Rattle.report.specs.File.{after, WritesFile, short, unwritten, written, WritesOut, refused, fused, FusesFile, long, looked}
 use Rattle.report.proofs.Coming.{FusedDone, fused_done, done_counts}
 
 -- the system that the bytes say, z being what they count
@@ -71,7 +71,7 @@ same_nine a b c d e f g h i a₂ b₂ c₂ d₂ e₂ f₂ g₂ h₂ i₂ p q r s
 
 module _ (slots : ℕ) (z : Sizes) (m l : Lent) (k : Counts) (d : FusedDone slots z m l k) where
   abbrev p : System
-  p = fused z m
+  p = Left.fused z m
 
   abbrev c : ℕ → Bool
   c = commit_set p d.st
@@ -133,28 +133,35 @@ module _ (slots : ℕ) (z : Sizes) (m l : Lent) (k : Counts) (d : FusedDone slot
         flags = flags_are;
       }
 
-was_accepted : {bytes t a i b o d h t' a' i' b' o' d' h' : List ℕ} {z : Sizes} {n : ℕ} → ReadIs bytes t a i b o d h (R.Done z n) t' a' i' b' o' d' h' → read_of bytes ≡ R.Done z n
-was_accepted {bytes} {t} {a} {i} {b} {o} {d} {h} {z = z} {n} x = (answered (length t) (length a) (length i) (length b) (length o) (length d) (length h) (read_of bytes) (length bytes) z n (sym x.answer)).0
+was_accepted : {bytes t a i b o d h t' a' i' b' o' d' h' : List ℕ} {x : FileRead} → ReadIs bytes t a i b o d h (Ok x) t' a' i' b' o' d' h' → read_of bytes ≡ Ok x
+was_accepted {bytes} {t} {a} {i} {b} {o} {d} {h} {x = x} r = (answered (length t) (length a) (length i) (length b) (length o) (length d) (length h) (read_of bytes) (length bytes) x.sizes x.terms (sym r.answer)).0
+
+abbrev pub fused_as : Sizes → Counts → Result FusedSystem Fault
+fused_as z k = Ok (record { sizes = z; counts = k })
+
+pub same_system : {s t : FusedSystem} → ◌≡◌ {A = Result FusedSystem Fault} (Ok s) (Ok t) → s ≡ t
+same_system e = cc
 
 pub record FusedIs (slots : ℕ) (bytes : List ℕ) (z : Sizes) (k : Counts) (l : Lent) : Type 0 where
   pub st : ℕ → Decision
   pub terms : ℕ
-  pub is_read : read_of bytes ≡ R.Done z terms
+  pub is_read : read_of bytes ≡ Ok (record { sizes = z; terms = terms })
   pub patches : Patched slots z k l (said_by bytes z) st
 
 -- THE THEOREM. What is told and left is that of the patched system, which the file said before.
-pub comes_patched : (slots : ℕ) (bytes : List ℕ) (m l : Lent) (z : Sizes) (k : Counts) → Comes slots bytes m (O.Fused z k) l → FusedIs slots bytes z k l
-comes_patched slots bytes m l z k h = go (O.Fused z k) h refl
+pub comes_patched : (slots : ℕ) (bytes : List ℕ) (m l : Lent) (z : Sizes) (k : Counts) → Comes slots bytes m (fused_as z k) l → FusedIs slots bytes z k l
+comes_patched slots bytes m l z k h = go (fused_as z k) h refl
   where
-    go : (o : Outcome) → Comes slots bytes m o l → o ≡ O.Fused z k → FusedIs slots bytes z k l
+    go : (o : Result FusedSystem Fault) → Comes slots bytes m o l → o ≡ fused_as z k → FusedIs slots bytes z k l
     go o (C.unread a) e = absurd (let x : ◌≡◌ {A = ℕ} 0 1 = cc in omega arith)
     go o (C.unfused a f) e = absurd (let x : ◌≡◌ {A = ℕ} 0 1 = cc in omega arith)
-    go o (C.fused {z = y} {n} {k = j} {m = i} a f) e =
-        let p : y ≡ z = cc in
-        let q : j ≡ k = cc in
-        let d = fused_done slots y i l j f in
-        let b : FusedIs slots bytes y j l = record { st = d.st; terms = n; is_read = was_accepted a.reads; patches = subst (λ (s : System). Patched slots y j l s d.st) (read_back y n a.reads refl) (was_patched slots y i l j d) } in
-        subst (λ (x : Counts). FusedIs slots bytes z x l) q (subst (λ (x : Sizes). FusedIs slots bytes x j l) p b)
+    go o (C.fused {x} {k = j} {m = i} a f) e =
+        let s = same_system e in
+        let p : x.sizes ≡ z = ap (λ (y : FusedSystem). y.sizes) s in
+        let q : j ≡ k = ap (λ (y : FusedSystem). y.counts) s in
+        let d = fused_done slots x.sizes i l j f in
+        let b : FusedIs slots bytes x.sizes j l = record { st = d.st; terms = x.terms; is_read = was_accepted a.reads; patches = subst (λ (s : System). Patched slots x.sizes j l s d.st) (read_back x.sizes x.terms a.reads refl) (was_patched slots x.sizes i l j d) } in
+        subst (λ (y : Counts). FusedIs slots bytes z y l) q (subst (λ (y : Sizes). FusedIs slots bytes y j l) p b)
 
 -- ---- the sums
 
@@ -165,7 +172,7 @@ pub record Sums (z : Sizes) (k : Counts) : Type 0 where
   pub kept_is : z.wires ≡ k.kept + (k.gone + k.stranded)
 
 module _ (slots : ℕ) (z : Sizes) (m l : Lent) (k : Counts) (d : FusedDone slots z m l k) where
-  k_gone : k.gone ≡ length (gone (fused z m) (c slots z m l k d))
+  k_gone : k.gone ≡ length (gone (Left.fused z m) (c slots z m l k d))
   unfolding counts_of
   k_gone = ap (λ (x : Counts). x.gone) d.counts
 
@@ -173,36 +180,37 @@ module _ (slots : ℕ) (z : Sizes) (m l : Lent) (k : Counts) (d : FusedDone slot
   sums_are =
       let b = done_counts slots z m l k d in
       let a = acc slots z m l k d in
-      let q = (counted (fused z m) (c slots z m l k d) a.once a.named.destinations_named).kept_count in
+      let q = (counted (Left.fused z m) (c slots z m l k d) a.once a.named.destinations_named).kept_count in
       record {
         before = b;
         after_is = omega (arith, b);
         kept_is = omega (arith, q, wires_are slots z m l k d, k_gone, k_stranded slots z m l k d, k_kept slots z m l k d);
       }
 
-pub comes_sums : {slots : ℕ} {bytes : List ℕ} {m l : Lent} (z : Sizes) (k : Counts) → Comes slots bytes m (O.Fused z k) l → Sums z k
-comes_sums {slots} {bytes} {m} {l} z k h = go (O.Fused z k) h refl
+pub comes_sums : {slots : ℕ} {bytes : List ℕ} {m l : Lent} (z : Sizes) (k : Counts) → Comes slots bytes m (fused_as z k) l → Sums z k
+comes_sums {slots} {bytes} {m} {l} z k h = go (fused_as z k) h refl
   where
-    go : (o : Outcome) → Comes slots bytes m o l → o ≡ O.Fused z k → Sums z k
+    go : (o : Result FusedSystem Fault) → Comes slots bytes m o l → o ≡ fused_as z k → Sums z k
     go o (C.unread a) e = absurd (let x : ◌≡◌ {A = ℕ} 0 1 = cc in omega arith)
     go o (C.unfused a f) e = absurd (let x : ◌≡◌ {A = ℕ} 0 1 = cc in omega arith)
-    go o (C.fused {z = y} {k = j} {m = i} a f) e =
-        let p : y ≡ z = cc in
-        let q : j ≡ k = cc in
-        subst (λ (x : Counts). Sums z x) q (subst (λ (x : Sizes). Sums x j) p (sums_are slots y i l j (fused_done slots y i l j f)))
+    go o (C.fused {x} {k = j} {m = i} a f) e =
+        let s = same_system e in
+        let p : x.sizes ≡ z = ap (λ (y : FusedSystem). y.sizes) s in
+        let q : j ≡ k = ap (λ (y : FusedSystem). y.counts) s in
+        subst (λ (y : Counts). Sums z y) q (subst (λ (y : Sizes). Sums y j) p (sums_are slots x.sizes i l j (fused_done slots x.sizes i l j f)))
 
 -- ---- the line
 
 pub record LineIs (bytes : List ℕ) (z : Sizes) (line : List ℕ) : Type 0 where
   pub st : ℕ → Decision
   pub terms : ℕ
-  pub is_read : read_of bytes ≡ R.Done z terms
+  pub is_read : read_of bytes ≡ Ok (record { sizes = z; terms = terms })
   pub accepted : Accepted (said_by bytes z)
   pub solves : Solves 2 (said_by bytes z) st
   pub line_is : line ≡ ok_text (P.counts_of (said_by bytes z) (commit_set (said_by bytes z) st))
 
 -- THE THEOREM. The values of a line are the nine counts of the patched system.
-pub line_counts : (bytes : List ℕ) (z : Sizes) (k : Counts) → Answered bytes (O.Fused z k) → LineIs bytes z (line_of (told_outcome (O.Fused z k)))
+pub line_counts : (bytes : List ℕ) (z : Sizes) (k : Counts) → Answered bytes (fused_as z k) → LineIs bytes z (line_of (told_outcome (fused_as z k)))
 line_counts bytes z k a =
     let f = comes_patched 2 bytes (made RESULT_TERMS) a.left z k a.comes in
     let q = f.patches in
@@ -215,7 +223,7 @@ pub record FileIs (slots : ℕ) (bytes out flags : List ℕ) (n w : ℕ) (out' f
   pub sizes : Sizes
   pub st : ℕ → Decision
   pub terms : ℕ
-  pub is_read : read_of bytes ≡ R.Done sizes terms
+  pub is_read : read_of bytes ≡ Ok (record { sizes = sizes; terms = terms })
   pub accepted : Accepted (said_by bytes sizes)
   pub solves : Solves slots (said_by bytes sizes) st
   pub wires_are : w ≡ sizes.wires
@@ -234,12 +242,16 @@ reaches (suc n) (x ∷ l) e = omega (arith, reaches n l (omega arith))
 drop_front : (xs l : List ℕ) (n : ℕ) → length xs ≡ n → n ≤ length l → drop n (sets l 0 xs) ≡ drop n l
 drop_front xs l n e h = ap (drop n) (sets_front xs l (omega (arith, e, h))) ∙ drop_at xs (drop (length xs) l) n e ∙ ap (λ (m : ℕ). drop m l) e
 
+wires_after : (z : Sizes) (k : Counts) → (after z k).wires ≡ z.wires
+unfolding after
+wires_after z k = refl
+
 said_wires : (bytes : List ℕ) (z : Sizes) → (said_by bytes z).wires ≡ z.wires
 unfolding system_from
 said_wires bytes z = refl
 
 file_of_lem : {slots : ℕ} {bytes out flags out' : List ℕ} {z : Sizes} {k : Counts} {l : Lent} {n : ℕ} → FusedIs slots bytes z k l → z.wires ≤ length flags
-    → WriteIs (after z k) (output l) out (W.Done n) out' → FileIs slots bytes out flags n z.wires out' (sets flags 0 (take z.wires l.flags))
+    → WriteIs (after z k) (output l) out (Ok n) out' → FileIs slots bytes out flags n z.wires out' (sets flags 0 (take z.wires l.flags))
 file_of_lem {bytes = bytes} {out} {flags} {out'} {z} {k} {l} {n} f h w =
     let q = f.patches in
     let i = is_written w in
@@ -262,24 +274,38 @@ file_of_lem {bytes = bytes} {out} {flags} {out'} {z} {k} {l} {n} f h w =
     }
 
 module _ (slots : ℕ) (bytes out flags : List ℕ) (n w : ℕ) where
-  written_file : {m l : Lent} (o : Outcome) (r : FuseFile) (out' flags' : List ℕ) → r ≡ Done n w → Comes slots bytes m o l → WritesOut l out flags o r out' flags' → FileIs slots bytes out flags n w out' flags'
-  written_file o r out' flags' e a unread = absurd (let x : ◌≡◌ {A = ℕ} 0 1 = cc in omega arith)
-  written_file o r out' flags' e a unfused = absurd (let x : ◌≡◌ {A = ℕ} 0 1 = cc in omega arith)
-  written_file o r out' flags' e a (short h) = absurd (let x : ◌≡◌ {A = ℕ} 0 1 = cc in omega arith)
-  written_file o r out' flags' e a (unwritten h i) = absurd (let x : ◌≡◌ {A = ℕ} 0 1 = cc in omega arith)
-  written_file {m} {l} o r out' flags' e a (written {z} {k} {n = j} h i) =
-      let p : j ≡ n = cc in
-      let q : z.wires ≡ w = cc in
-      subst (λ (x : ℕ). FileIs slots bytes out flags n x out' (sets flags 0 (take z.wires l.flags))) q
-      (subst (λ (x : ℕ). FileIs slots bytes out flags x z.wires out' (sets flags 0 (take z.wires l.flags))) p (file_of_lem (comes_patched slots bytes m l z k a) h i))
+  abbrev filed : Result FusedFile Fault
+  filed = Ok (record { length = n; wires = w })
 
-  from_file : (r : FuseFile) (out' flags' : List ℕ) → r ≡ Done n w → FusesFile slots bytes out flags r out' flags' → FileIs slots bytes out flags n w out' flags'
+  written_file : {m l : Lent} (z : Sizes) (k : Counts) (y : Sizes) (r : Result FusedFile Fault) (out' flags' : List ℕ) → r ≡ filed → y ≡ after z k → Comes slots bytes m (fused_as z k) l → WritesFile y l out flags r out' flags'
+      → FileIs slots bytes out flags n w out' flags'
+  written_file z k y r out' flags' e v a (short h) = absurd (let x : ◌≡◌ {A = ℕ} 0 1 = cc in omega arith)
+  written_file z k y r out' flags' e v a (unwritten h i) = absurd (let x : ◌≡◌ {A = ℕ} 0 1 = cc in omega arith)
+  written_file {m} {l} z k y r out' flags' e v a (written {n = j} h i) =
+      let g : ◌≡◌ {A = FusedFile} (record { length = j; wires = y.wires }) (record { length = n; wires = w }) = cc in
+      let p : j ≡ n = ap (λ (x : FusedFile). x.length) g in
+      let u : y.wires ≡ z.wires = ap (λ (x : Sizes). x.wires) v ∙ wires_after z k in
+      let q : z.wires ≡ w = sym u ∙ ap (λ (x : FusedFile). x.wires) g in
+      let h₂ : z.wires ≤ length flags = omega (arith, h, u) in
+      let f : FileIs slots bytes out flags j z.wires out' (sets flags 0 (take z.wires l.flags)) =
+      file_of_lem (comes_patched slots bytes m l z k a) h₂ (subst (λ (x : Sizes). WriteIs x (output l) out (Ok j) out') v i) in
+      let f₂ : FileIs slots bytes out flags n z.wires out' (sets flags 0 (take z.wires l.flags)) =
+      subst (λ (x : ℕ). FileIs slots bytes out flags x z.wires out' (sets flags 0 (take z.wires l.flags))) p f in
+      let f₃ : FileIs slots bytes out flags n w out' (sets flags 0 (take z.wires l.flags)) =
+      subst (λ (x : ℕ). FileIs slots bytes out flags n x out' (sets flags 0 (take z.wires l.flags))) q f₂ in
+      subst (λ (x : ℕ). FileIs slots bytes out flags n w out' (sets flags 0 (take x l.flags))) (sym u) f₃
+
+  written_out : {m l : Lent} (o : Result FusedSystem Fault) (r : Result FusedFile Fault) (out' flags' : List ℕ) → r ≡ filed → Comes slots bytes m o l → WritesOut l out flags o r out' flags' → FileIs slots bytes out flags n w out' flags'
+  written_out o r out' flags' e a refused = absurd (let x : ◌≡◌ {A = ℕ} 0 1 = cc in omega arith)
+  written_out o r out' flags' e a (fused {s} h) = written_file s.sizes s.counts (after s.sizes s.counts) r out' flags' e refl a h
+
+  from_file : (r : Result FusedFile Fault) (out' flags' : List ℕ) → r ≡ filed → FusesFile slots bytes out flags r out' flags' → FileIs slots bytes out flags n w out' flags'
   from_file r out' flags' e (long h) = absurd (let x : ◌≡◌ {A = ℕ} 0 1 = cc in omega arith)
-  from_file r out' flags' e (looked h b) = written_file b.outcome r out' flags' e b.comes b.writes
+  from_file r out' flags' e (looked h b) = written_out b.outcome r out' flags' e b.comes b.writes
 
   -- THE THEOREM. What is written is the file of the patched system, and the flags are its committed wires.
-  pub file_patched : (out' flags' : List ℕ) → FusesFile slots bytes out flags (Done n w) out' flags' → FileIs slots bytes out flags n w out' flags'
-  file_patched out' flags' h = from_file (Done n w) out' flags' refl h
+  pub file_patched : (out' flags' : List ℕ) → FusesFile slots bytes out flags (Ok (record { length = n; wires = w })) out' flags' → FileIs slots bytes out flags n w out' flags'
+  file_patched out' flags' h = from_file filed out' flags' refl h
 
 -- ---- the committed wires
 

@@ -8,14 +8,15 @@
 --   Reported            what is answered and left where it is put into lent bytes
 --
 -- Assumes nothing.
-use Rattle.std.specs.Prelude.{ℕ, ◌≤◌, ◌<◌, List, length}
+use Rattle.std.specs.Prelude.{ℕ, ◌≤◌, ◌<◌, List, length, Result}
+use Rattle.refusal.specs.declared.Refusal.{Refusal}
 use Rattle.word.specs.Answers as T
 use Rattle.word.specs.Answers.{Told, given}
 use Rattle.lower.specs.Faults.{FULL}
-use Rattle.house_write.specs.declared.Written.{Written}
 use Rattle.fusion.specs.Left.{Lent}
 use Rattle.text.specs.Text.{refused_text, ok_text, Puts}
-use Rattle.report.specs.declared.outcome.Outcome.{Outcome}
+use Rattle.report.specs.declared.outcome.FusedSystem.{FusedSystem}
+use Rattle.report.specs.declared.outcome.Fault.{Fault}
 use Rattle.report.specs.Outcome.{made, Comes, told_outcome}
 
 abbrev pub MAX_INPUT : ℕ
@@ -30,16 +31,16 @@ line_of (T.refused_at number at) = refused_text number
 line_of (given vs) = ok_text vs
 
 -- "fuses with two slots and a result store of 4,096 terms"
-pub record Answered (bytes : List ℕ) (o : Outcome) : Type 0 where
+pub record Answered (bytes : List ℕ) (o : Result FusedSystem Fault) : Type 0 where
   pub left : Lent
   pub comes : Comes 2 bytes (made RESULT_TERMS) o left
 
 -- "(longer: `refused 6`)"
 pub data Reports (bytes : List ℕ) : List ℕ → Type 0 where
   long : MAX_INPUT < length bytes → Reports bytes (line_of (T.refused FULL))
-  answers : {o : Outcome} → length bytes ≤ MAX_INPUT → Answered bytes o → Reports bytes (line_of (told_outcome o))
+  answers : {o : Result FusedSystem Fault} → length bytes ≤ MAX_INPUT → Answered bytes o → Reports bytes (line_of (told_outcome o))
 
-pub record Reported (bytes out : List ℕ) (r : Written) (out' : List ℕ) : Type 0 where
+pub record Reported (bytes out : List ℕ) (r : Result ℕ Refusal) (out' : List ℕ) : Type 0 where
   pub line : List ℕ
   pub reports : Reports bytes line
   pub puts : Puts line out r out'

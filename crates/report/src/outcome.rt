@@ -1,62 +1,68 @@
 // Reads a house file into lent stores, and fuses what was read.
 ghost use Rattle.std.specs.Prelude.{◌≡◌};
+ghost use Rattle.refusal.specs.Refusals.{number_of};
 ghost use Rattle.fusion.specs.Left.{lent};
-ghost use Rattle.report.specs.Outcome.{Comes};
-ghost use Rattle.report.specs.Steps.{outcome_of, FusesRead};
+ghost use Rattle.report.specs.declared.outcome.Fault.TheVariants.{Unread, Refused};
+ghost use Rattle.report.specs.Outcome.{fault_number, Comes};
 
-use fusion::{Counts, Fused};
-use house_file::Read;
+use fusion::Counts;
+use house_file::FileFault;
 use lower::Sizes;
+use refusal::Refusal;
+use std::fmt;
 
-// A refusal of the reader with the offset of its field, one of fusing, or the sizes of what was read and the counts of fusing.
+// The sizes of what was read, and the counts of fusing.
 #[derive(Clone, Copy)]
-pub enum Outcome {
-    Unread { number: u8, at: usize },
-    Unfused { number: u8 },
-    Fused { sizes: Sizes, counts: Counts },
+pub struct FusedSystem {
+    pub sizes: Sizes,
+    pub counts: Counts,
 }
 
-fn outcome_of(sizes: Sizes, answer: Fused) -> Outcome
-    ensures { result ≡ outcome_of sizes answer }
-{
-    match answer {
-        Fused::Refused(number) => Outcome::Unfused { number: number },
-        Fused::Done(counts) => Outcome::Fused {
-            sizes: sizes,
-            counts: counts,
-        },
+// Why a file is not fused: the reader refuses it, or fusing and writing do.
+#[derive(Clone, Copy, Debug, PartialEq, Eq)]
+pub enum Fault {
+    Unread(FileFault),
+    Refused(Refusal),
+}
+
+impl Fault {
+    pub fn refusal(self) -> Refusal
+        ensures { number_of result ≡ fault_number self }
+    {
+        match self {
+            Fault::Unread(fault) => fault.refusal,
+            Fault::Refused(refusal) => refusal,
+        }
     }
 }
 
-fn fuse_read(
-    read: Read,
-    old: &[u64],
-    new: &mut [u64],
-    ands: &mut [u64],
-    imuls: &mut [u64],
-    bmuls: &mut [u64],
-    zeros: &mut [u64],
-    dsts: &mut [u16],
-    rhss: &mut [u64],
-    flags: &mut [u8],
-    slots: u64,
-) -> Outcome
-    ensures { FusesRead slots (lent old.now new.old ands.old imuls.old bmuls.old zeros.old dsts.old rhss.old flags.old) (lent old.now new.new ands.new imuls.new bmuls.new zeros.new dsts.new rhss.new flags.new) read result }
-{
-    match read {
-        Read::Refused { number, at } => Outcome::Unread {
-            number: number,
-            at: at,
-        },
-        Read::Done { sizes, terms: _ } => outcome_of(
-            sizes,
-            fusion::fuse(
-                old, new, ands, imuls, bmuls, zeros, dsts, rhss, flags, sizes, slots,
-            ),
-        ),
+impl From<FileFault> for Fault {
+    ghost from_gives = { λ fault f. f ≡ Unread fault };
+
+    fn from(fault: FileFault) -> Fault {
+        Fault::Unread(fault)
     }
 }
 
+impl From<Refusal> for Fault {
+    ghost from_gives = { λ refusal f. f ≡ Refused refusal };
+
+    fn from(refusal: Refusal) -> Fault {
+        Fault::Refused(refusal)
+    }
+}
+
+// As the programs print it: by its number, and the offset where there is one.
+impl fmt::Display for Fault {
+    fn fmt<W: fmt::Write>(&self, f: &mut fmt::Formatter<W>) -> fmt::Result {
+        match self {
+            Fault::Unread(fault) => write!(f, "{} at {}", fault.refusal, fault.at),
+            Fault::Refused(refusal) => write!(f, "{refusal}"),
+        }
+    }
+}
+
+// Kept: the nine lists, as `house_read::read` and `fusion::fuse` take them.
 pub fn read_and_fuse(
     input: &[u8],
     terms: &mut [u64],
@@ -69,30 +75,15 @@ pub fn read_and_fuse(
     rhss: &mut [u64],
     flags: &mut [u8],
     slots: u64,
-) -> Outcome
+) -> Result<FusedSystem, Fault>
     ensures { Comes slots input.now (lent terms.old new.old ands.old imuls.old bmuls.old zeros.old dsts.old rhss.old flags.old) result (lent terms.new new.new ands.new imuls.new bmuls.new zeros.new dsts.new rhss.new flags.new) }
 {
-    let read = house_read::read(
-        input,
-        &mut *terms,
-        &mut *ands,
-        &mut *imuls,
-        &mut *bmuls,
-        &mut *zeros,
-        &mut *dsts,
-        &mut *rhss,
-    );
-    fuse_read(
-        read,
-        &*terms,
-        new,
-        &mut *ands,
-        &mut *imuls,
-        &mut *bmuls,
-        &mut *zeros,
-        &mut *dsts,
-        &mut *rhss,
-        flags,
-        slots,
-    )
+    let read = house_read::read(input, terms, ands, imuls, bmuls, zeros, dsts, rhss)?;
+    let counts = fusion::fuse(
+        terms, new, ands, imuls, bmuls, zeros, dsts, rhss, flags, read.sizes, slots,
+    )?;
+    Ok(FusedSystem {
+        sizes: read.sizes,
+        counts,
+    })
 }

@@ -1,5 +1,6 @@
 -- When two shifts, `inner` first and then `outer`, are one shift, or clear the word (01, "Shifts": "compose").
 --
+--   NoIdentities i o  neither of the two leaves every word: their amounts are 1 or more
 --   Rule             for two variants, each from an amount on, what makes the two shifts one
 --   degenerates      the rules by which the inner or the outer shift absorbs the other
 --   chains           the rules by which two shifts of different variants chain
@@ -12,7 +13,7 @@
 --   Right i o c      what the answer c claims of i and then o: "Single and Zero .. have the meaning of the two shifts. Pair claims nothing"
 --
 -- Assumes nothing.
-use Rattle.std.specs.Prelude.{ℕ, ◌+◌, ◌-◌, ◌<◌, ◌^◌, ◌≡◌, Bool, cond, ◌&&◌, List, [], ◌∷◌, ltb, leb, eqb}
+use Rattle.std.specs.Prelude.{ℕ, ◌+◌, ◌-◌, ◌<◌, ◌≤◌, ◌^◌, ◌≡◌, Bool, cond, ◌&&◌, List, [], ◌∷◌, ltb, leb, eqb}
 use Rattle.shift.specs.declared.ShiftVariant.{ShiftVariant}
 use Rattle.shift.specs.declared.ShiftVariant.TheVariants.{Sll, Slr, Sar, Rotr, Sll32, Srl32, Sra32, Rotr32}
 use Rattle.shift.specs.declared.Shift.{Shift}
@@ -21,6 +22,9 @@ use Rattle.shift.specs.declared.Makes.TheVariants.{Inner, Outer, Chain, Neither}
 use Rattle.shift.specs.declared.Composition.{Composition}
 use Rattle.shift.specs.declared.Composition.TheVariants.{Single, Zero, Pair}
 use Rattle.shift.specs.Shifts.{by, width_of, variant_number, Valid, identity, apply_of}
+
+abbrev pub NoIdentities : Shift → Shift → Type 0
+NoIdentities i o = (1 ≤ i.amount) × (1 ≤ o.amount)
 
 -- "where 0 becomes sll 0"
 abbrev pub turned : ShiftVariant → ℕ → Composition

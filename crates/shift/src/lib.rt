@@ -5,30 +5,30 @@
 // be valid.
 #![tactic(auto)]
 
-ghost use Rattle.std.specs.Prelude.{◌≡◌, ◌&&◌, [], ◌∷◌, ◌<◌, ◌%◌, eqb};
+ghost use Rattle.std.specs.Prelude.{◌≡◌, cond, ◌&&◌, [], ◌∷◌, ◌<◌, eqb};
 ghost use Rattle.word.specs.Answers.{checked, told};
-ghost use Rattle.shift.specs.Shifts.{variant_number, variant_at, width_of, cyclic_of, row_of, valid, apply_of, number_of, valid_number, shift_at};
+ghost use Rattle.shift.specs.Shifts.{variant_number, variant_at, row_of, valid, apply_of, number_of, valid_number, shift_at};
 ghost use Rattle.shift.specs.Compose.{compose_valid};
 ghost use Rattle.shift.specs.Answers.{applied, told_number, numbered, told_found, found, told_composed, composed, values};
 
-use word::Shifted;
+use refusal::Refusal;
 
 pub mod valid;
 
-#[derive(Clone, Copy)]
+#[derive(Clone, Copy, Debug, PartialEq, Eq)]
 pub enum ShiftVariant {
-    Sll,
-    Slr,
-    Sar,
-    Rotr,
-    Sll32,
-    Srl32,
-    Sra32,
-    Rotr32,
+    Sll = 0,
+    Slr = 1,
+    Sar = 2,
+    Rotr = 3,
+    Sll32 = 4,
+    Srl32 = 5,
+    Sra32 = 6,
+    Rotr32 = 7,
 }
 
 // A shift that exists need not be valid: whoever is handed one looks.
-#[derive(Clone, Copy)]
+#[derive(Clone, Copy, Debug, PartialEq, Eq)]
 pub struct Shift {
     pub variant: ShiftVariant,
     pub amount: u8,
@@ -40,33 +40,12 @@ pub struct Row {
     pub cyclic: bool,
 }
 
-// A shift's number, or 4.
-#[derive(Clone, Copy)]
-pub enum Numbered {
-    Number(u64),
-    Refused,
-}
-
-// A number's shift, or 4.
-#[derive(Clone, Copy)]
-pub enum Found {
-    Valid(Shift),
-    Refused,
-}
-
 // What two shifts come to, one after the other.
-#[derive(Clone, Copy)]
+#[derive(Clone, Copy, Debug, PartialEq, Eq)]
 pub enum Composition {
     Single(Shift),
     Zero,
     Pair,
-}
-
-// The same, or 4.
-#[derive(Clone, Copy)]
-pub enum Composed {
-    Is(Composition),
-    Refused,
 }
 
 // What makes two shifts one: the inner or the outer absorbs the other, or they chain and go on as a variant.
@@ -102,20 +81,10 @@ const HALF_CYCLIC: Row = Row {
 const ROWS: [Row; 8] = [FULL, FULL, FULL, FULL_CYCLIC, HALF, HALF, HALF, HALF_CYCLIC];
 
 impl ShiftVariant {
-    // Rust's `variant as u8`.
     pub fn number(self) -> u8
         ensures { (result ≡ variant_number self) × (result < 8) }
     {
-        match self {
-            ShiftVariant::Sll => 0,
-            ShiftVariant::Slr => 1,
-            ShiftVariant::Sar => 2,
-            ShiftVariant::Rotr => 3,
-            ShiftVariant::Sll32 => 4,
-            ShiftVariant::Srl32 => 5,
-            ShiftVariant::Sra32 => 6,
-            ShiftVariant::Rotr32 => 7,
-        }
+        self as u8
     }
 
     pub fn from_u8(byte: u8) -> ShiftVariant
@@ -163,52 +132,52 @@ impl Shift {
         self.amount < r.width
     }
 
-    pub fn apply(self, w: u64) -> Shifted
+    // The shift where it is valid.
+    pub fn checked(self) -> Result<Shift, Refusal>
+        ensures { result ≡ cond (valid self) (Ok self) (Err Refusal.Shift) }
+    {
+        if self.is_valid() {
+            Ok(self)
+        } else {
+            Err(Refusal::Shift)
+        }
+    }
+
+    pub fn apply(self, w: u64) -> Result<u64, Refusal>
         ensures { (result ≡ applied self w) × (told result ≡ checked (valid self) (apply_of self w ∷ [])) }
     {
-        if self.is_valid() {
-            Shifted::Word(valid::apply(self, w))
-        } else {
-            Shifted::Refused
-        }
+        Ok(valid::apply(self.checked()?, w))
     }
 
-    pub fn index(self) -> Numbered
+    pub fn index(self) -> Result<u64, Refusal>
         ensures { (result ≡ numbered self) × (told_number result ≡ checked (valid self) (number_of self ∷ [])) }
     {
-        if self.is_valid() {
-            Numbered::Number(valid::index(self))
-        } else {
-            Numbered::Refused
+        Ok(valid::index(self.checked()?))
+    }
+
+    // The shift that a number spells, valid or not.
+    pub fn spelled(index: u64) -> Shift
+        requires { index < 512 }
+        ensures { result ≡ shift_at index }
+    {
+        Shift {
+            variant: ShiftVariant::from_u8((index / 64) as u8),
+            amount: (index % 64) as u8,
         }
     }
 
-    pub fn from_index(index: u64) -> Found
+    pub fn from_index(index: u64) -> Result<Shift, Refusal>
         ensures { (result ≡ found index) × (told_found result ≡ checked (valid_number index) (index ∷ [])) }
     {
         if 512 <= index {
-            return Found::Refused;
+            return Err(Refusal::Shift);
         }
-        let s = Shift {
-            variant: ShiftVariant::from_u8((index / 64) as u8),
-            amount: (index % 64) as u8,
-        };
-        if s.is_valid() {
-            Found::Valid(s)
-        } else {
-            Found::Refused
-        }
+        Shift::spelled(index).checked()
     }
 
-    pub fn compose(inner: Shift, outer: Shift) -> Composed
+    pub fn compose(inner: Shift, outer: Shift) -> Result<Composition, Refusal>
         ensures { (result ≡ composed inner outer) × (told_composed result ≡ checked (valid inner && valid outer) (values (compose_valid inner outer))) }
     {
-        if !inner.is_valid() {
-            return Composed::Refused;
-        }
-        if !outer.is_valid() {
-            return Composed::Refused;
-        }
-        Composed::Is(valid::compose(inner, outer))
+        Ok(valid::compose(inner.checked()?, outer.checked()?))
     }
 }

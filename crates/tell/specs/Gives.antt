@@ -8,12 +8,12 @@
 -- `sets l i xs` is the list l with xs stored from place i on; what would stand past its end is dropped.
 --
 -- Assumes nothing.
-use Rattle.std.specs.Prelude.{◌≡◌, ℕ, List, [], ◌∷◌}
+use Rattle.std.specs.Prelude.{◌≡◌, ℕ, List, [], ◌∷◌, Result, Ok, Err}
 use Rattle.std.proofs.lemmas.List.Edits.{sets}
 use Rattle.word.specs.Answers.{Told, given, refused, refused_at}
 use Rattle.house_file.specs.Reading.{told_read}
-use Rattle.house_file.specs.declared.Read.{Read}
-use Rattle.house_file.specs.declared.Read.TheVariants.{Refused, Done}
+use Rattle.house_file.specs.declared.FileFault.{FileFault}
+use Rattle.house_file.specs.declared.FileRead.{FileRead}
 
 abbrev pub number : Told → ℕ
 number (given xs) = 0
@@ -30,10 +30,10 @@ pub record Gives (t : Told) (vs : List ℕ) (r : ℕ) (vs' : List ℕ) : Type 0 
   pub values_are : vs' ≡ laid vs t
 
 -- "with the offset of its field's tag"
-abbrev pub laid_read : List ℕ → Read → List ℕ
-laid_read vs (Refused n at) = sets vs 0 (at ∷ [])
-laid_read vs (Done z terms) = laid vs (told_read (Done z terms))
+abbrev pub laid_read : List ℕ → Result FileRead FileFault → List ℕ
+laid_read vs (Ok r) = laid vs (told_read (Ok r))
+laid_read vs (Err f) = sets vs 0 (f.at ∷ [])
 
-pub record GivesRead (a : Read) (vs : List ℕ) (r : ℕ) (vs' : List ℕ) : Type 0 where
+pub record GivesRead (a : Result FileRead FileFault) (vs : List ℕ) (r : ℕ) (vs' : List ℕ) : Type 0 where
   pub number_is : r ≡ number (told_read a)
   pub values_are : vs' ≡ laid_read vs a

@@ -1,188 +1,123 @@
 // What an answer tells: a number, and its values in the lent slice.
 #![tactic(auto)]
 
-ghost use Rattle.std.specs.Prelude.{◌≡◌, [], ◌∷◌, set};
+ghost use Rattle.std.specs.Prelude.{◌≡◌, Ok};
 ghost use Rattle.std.proofs.lemmas.List.Edits.{sets};
 ghost use Rattle.word.specs.Answers.{given};
 ghost use Rattle.shift.specs.Shifts.{number_of};
-ghost use Rattle.shift.specs.Answers as S;
-ghost use Rattle.operand.specs.Push as O;
-ghost use Rattle.house_file.specs.declared.Read.TheVariants as R;
+ghost use Rattle.shift.specs.Answers.{told_composed};
+ghost use Rattle.operand.specs.Push.{told_pushed};
 ghost use Rattle.house_write.specs.Write.{told_written};
-ghost use Rattle.fusion.specs.declared.Fused.TheVariants as F;
 ghost use Rattle.fusion.specs.Answer.{told_fused};
 ghost use Rattle.evaluate.specs.Evaluation.{told_evaluated};
 ghost use Rattle.tell.specs.Gives.{Gives, GivesRead};
 
-use evaluate::Evaluated;
-use fusion::{Counts, Fused};
-use house_file::Read;
-use house_write::Written;
-use lower::Sizes;
-use operand::{PushInner, Pushed};
-use shift::{Composed, Composition, Shift};
+use fusion::Counts;
+use house_file::{FileFault, FileRead};
+use operand::PushInner;
+use refusal::Refusal;
+use shift::{Composition, Shift};
 
-// A value past the end is dropped.
-fn put(values: &mut [u64], at: usize, v: u64)
-    ensures { values.new ≡ set values.old at v }
-{
-    if at < values.len() {
-        values[at] = v;
-    }
-}
-
-// An answer's values, from the front on.
+// An answer's values, from the front on: what would stand past the end is dropped.
 fn lay(answer: &[u64], values: &mut [u64])
     ensures { values.new ≡ sets values.old 0 answer.now }
 {
-    let mut i = 0;
-    while i < answer.len() {
-        put(&mut *values, i, answer[i]);
-        i += 1;
-    }
+    let n = answer.len().min(values.len());
+    values[..n].copy_from_slice(&answer[..n]);
 }
 
-fn one(a: u64, values: &mut [u64]) -> u8
-    ensures { Gives (given (a ∷ [])) values.old result values.new }
+fn tell(answer: &[u64], values: &mut [u64]) -> u8
+    ensures { Gives (given answer.now) values.old result values.new }
 {
-    let answer = [a];
-    lay(&answer, values);
+    lay(answer, values);
     0
 }
 
-fn two(a: u64, b: u64, values: &mut [u64]) -> u8
-    ensures { Gives (given (a ∷ b ∷ [])) values.old result values.new }
-{
-    let answer = [a, b];
-    lay(&answer, values);
-    0
-}
-
-fn three(a: u64, b: u64, c: u64, values: &mut [u64]) -> u8
-    ensures { Gives (given (a ∷ b ∷ c ∷ [])) values.old result values.new }
-{
-    let answer = [a, b, c];
-    lay(&answer, values);
-    0
-}
-
-// A shift's number, looked at by nobody: what composing and pushing give is valid.
+// Kept: `Shift::index` and `valid::index` look at a shift or ask for a valid one, and an answer does not say that its shifts are valid.
 fn number_of(s: Shift) -> u64
     ensures { result ≡ number_of s }
 {
-    let v = s.variant;
-    let n = s.amount;
-    64 * v.number() as u64 + n as u64
+    64 * u64::from(s.variant.number()) + u64::from(s.amount)
 }
 
-fn composition(c: Composition, values: &mut [u64]) -> u8
-    ensures { Gives (given (S.values c)) values.old result values.new }
-{
-    match c {
-        Composition::Single(s) => two(0, number_of(s), values),
-        Composition::Zero => one(1, values),
-        Composition::Pair => one(2, values),
-    }
-}
-
-pub fn composed(answer: Composed, values: &mut [u64]) -> u8
-    ensures { Gives (S.told_composed answer) values.old result values.new }
+pub fn composed(answer: Result<Composition, Refusal>, values: &mut [u64]) -> u8
+    ensures { Gives (told_composed answer) values.old result values.new }
 {
     match answer {
-        Composed::Is(c) => composition(c, values),
-        Composed::Refused => lower::SHIFT,
+        Ok(Composition::Single(s)) => tell(&[0, number_of(s)], values),
+        Ok(Composition::Zero) => tell(&[1], values),
+        Ok(Composition::Pair) => tell(&[2], values),
+        Err(refusal) => refusal.number(),
     }
 }
 
-fn sequence(p: PushInner, values: &mut [u64]) -> u8
-    ensures { Gives (given (O.values p)) values.old result values.new }
-{
-    match p {
-        PushInner::Seq(a, b) => three(0, number_of(a), number_of(b), values),
-        PushInner::Zero => one(1, values),
-        PushInner::OverBudget => one(2, values),
-    }
-}
-
-pub fn pushed(answer: Pushed, values: &mut [u64]) -> u8
-    ensures { Gives (O.told_pushed answer) values.old result values.new }
+pub fn pushed(answer: Result<PushInner, Refusal>, values: &mut [u64]) -> u8
+    ensures { Gives (told_pushed answer) values.old result values.new }
 {
     match answer {
-        Pushed::Is(p) => sequence(p, values),
-        Pushed::Refused => lower::SHIFT,
+        Ok(PushInner::Seq(a, b)) => tell(&[0, number_of(a), number_of(b)], values),
+        Ok(PushInner::Zero) => tell(&[1], values),
+        Ok(PushInner::OverBudget) => tell(&[2], values),
+        Err(refusal) => refusal.number(),
     }
 }
 
-fn read_refused(number: u8, at: usize, values: &mut [u64]) -> u8
-    ensures { GivesRead (R.Refused number at) values.old result values.new }
-{
-    let answer = [at as u64];
-    lay(&answer, values);
-    number
-}
-
-fn read_done(z: Sizes, terms: usize, values: &mut [u64]) -> u8
-    ensures { GivesRead (R.Done z terms) values.old result values.new }
-{
-    let answer = [
-        z.wires as u64,
-        z.ands as u64,
-        z.imuls as u64,
-        z.bmuls as u64,
-        z.zeros as u64,
-        z.linears as u64,
-        terms as u64,
-    ];
-    lay(&answer, values);
-    0
-}
-
-pub fn read(answer: Read, values: &mut [u64]) -> u8
+pub fn read(answer: Result<FileRead, FileFault>, values: &mut [u64]) -> u8
     ensures { GivesRead answer values.old result values.new }
 {
     match answer {
-        Read::Refused { number, at } => read_refused(number, at, values),
-        Read::Done { sizes, terms } => read_done(sizes, terms, values),
+        Ok(FileRead { sizes, terms }) => {
+            let answer = [
+                sizes.wires as u64,
+                sizes.ands as u64,
+                sizes.imuls as u64,
+                sizes.bmuls as u64,
+                sizes.zeros as u64,
+                sizes.linears as u64,
+                terms as u64,
+            ];
+            tell(&answer, values)
+        }
+        Err(FileFault { refusal, at }) => {
+            lay(&[at as u64], values);
+            refusal.number()
+        }
     }
 }
 
-fn counts(k: Counts, values: &mut [u64]) -> u8
-    ensures { Gives (told_fused (F.Done k)) values.old result values.new }
-{
-    let answer = [
-        k.gone as u64,
-        k.stranded as u64,
-        k.committed as u64,
-        k.written as u64,
-        k.kept as u64,
-    ];
-    lay(&answer, values);
-    0
-}
-
-pub fn fused(answer: Fused, values: &mut [u64]) -> u8
+#[tactic(auto, unfolding(fusion::specs::Answer::told_fused))]
+pub fn fused(answer: Result<Counts, Refusal>, values: &mut [u64]) -> u8
     ensures { Gives (told_fused answer) values.old result values.new }
 {
     match answer {
-        Fused::Done(k) => counts(k, values),
-        Fused::Refused(number) => number,
+        Ok(k) => {
+            let answer = [
+                k.gone as u64,
+                k.stranded as u64,
+                k.committed as u64,
+                k.written as u64,
+                k.kept as u64,
+            ];
+            tell(&answer, values)
+        }
+        Err(refusal) => refusal.number(),
     }
 }
 
-pub fn written(answer: Written, values: &mut [u64]) -> u8
+pub fn written(answer: Result<usize, Refusal>, values: &mut [u64]) -> u8
     ensures { Gives (told_written answer) values.old result values.new }
 {
     match answer {
-        Written::Done { length } => one(length as u64, values),
-        Written::Refused { number } => number,
+        Ok(length) => tell(&[length as u64], values),
+        Err(refusal) => refusal.number(),
     }
 }
 
-pub fn evaluated(answer: Evaluated, values: &mut [u64]) -> u8
+pub fn evaluated(answer: Result<usize, Refusal>, values: &mut [u64]) -> u8
     ensures { Gives (told_evaluated answer) values.old result values.new }
 {
     match answer {
-        Evaluated::Done { count } => one(count as u64, values),
-        Evaluated::Refused { number } => number,
+        Ok(count) => tell(&[count as u64], values),
+        Err(refusal) => refusal.number(),
     }
 }

@@ -9,8 +9,9 @@ use lib.Dec.{eqb, leb}
 use lib.ListN.{length, take, get_or, set, length-append}
 use lib.Seq.{take-suc, take_all, length-take-le}
 use borrow.Author.Tests.{le-leb, lt-leb, eq-eqb, ne_eqb}
-use Rattle.house_file.specs.Reading.{ROOM}
-use Rattle.house_write.specs.declared.Written.TheVariants.{Done, Refused}
+use Rattle.std.specs.Prelude.{Result, Ok, Err}
+use Rattle.refusal.specs.declared.Refusal.{Refusal}
+use Rattle.refusal.specs.declared.Refusal.TheVariants.{Room}
 use Rattle.house_write.proofs.Storing.{sets-append}
 use Rattle.text.specs.Decimal.{decimal}
 use Rattle.text.specs.Text.{NEWLINE, REFUSED, AT, OK, refused_text, refused_at_text, value_text, values_text, ok_text, line_text, lines_text, PutsAt, Puts}
@@ -166,13 +167,13 @@ module _ (number offset : ℕ) {out o₁ o₂ o₃ o₄ o₅ : List ℕ} {p q s 
 -- ---- whether they fit: they are counted first
 
 module _ {text none none' : List ℕ} {n : ℕ} (a : PutsAt text none 0 n none') where
-  pub puts_short : (out : List ℕ) → length out < n → Puts text out (Refused ROOM) out
+  pub puts_short : (out : List ℕ) → length out < n → Puts text out (Err Room) out
   puts_short out h =
       let e : leb (length text) (length out) ≡ false = lt-leb (length text) (length out) (omega (arith, a.after_is)) in
       record { answer = rw e; bytes_are = rw e }
 
-  pub puts_fit : {out out' : List ℕ} {m : ℕ} → n ≤ length out → PutsAt text out 0 m out' → Puts text out (Done n) out'
+  pub puts_fit : {out out' : List ℕ} {m : ℕ} → n ≤ length out → PutsAt text out 0 m out' → Puts text out (Ok n) out'
   puts_fit {out} {out'} h b =
       let k : n ≡ length text = omega (arith, a.after_is) in
       let e : leb (length text) (length out) ≡ true = le-leb (length text) (length out) (omega (arith, a.after_is)) in
-      record { answer = rw e (ap Done k); bytes_are = rw e b.bytes_are }
+      record { answer = rw e (ap Ok k); bytes_are = rw e b.bytes_are }

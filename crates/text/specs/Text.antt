@@ -13,12 +13,11 @@
 -- `sets l i vs` is the list l with vs stored from place i on.
 --
 -- Assumes nothing.
-use Rattle.std.specs.Prelude.{◌≡◌, ℕ, ◌+◌, ◌≤◌, cond, List, [], ◌∷◌, ◌++◌, map, leb, length}
+use Rattle.std.specs.Prelude.{◌≡◌, ℕ, ◌+◌, ◌≤◌, cond, List, [], ◌∷◌, ◌++◌, map, leb, length, Result, Ok, Err}
 use Rattle.std.proofs.lemmas.List.Edits.{sets}
 use Rattle.lower.specs.Lists.{joined}
-use Rattle.house_file.specs.Reading.{ROOM}
-use Rattle.house_write.specs.declared.Written.{Written}
-use Rattle.house_write.specs.declared.Written.TheVariants.{Done, Refused}
+use Rattle.refusal.specs.declared.Refusal.{Refusal}
+use Rattle.refusal.specs.declared.Refusal.TheVariants.{Room}
 use Rattle.text.specs.Decimal.{decimal}
 
 abbrev pub NEWLINE : ℕ
@@ -64,13 +63,13 @@ pub record PutsAt (text out : List ℕ) (at after : ℕ) (out' : List ℕ) : Typ
   pub after_is : after ≡ at + length text
   pub bytes_are : out' ≡ sets out at text
 
-pub record Puts (text out : List ℕ) (r : Written) (out' : List ℕ) : Type 0 where
-  pub answer : r ≡ cond (leb (length text) (length out)) (Done (length text)) (Refused ROOM)
+pub record Puts (text out : List ℕ) (r : Result ℕ Refusal) (out' : List ℕ) : Type 0 where
+  pub answer : r ≡ cond (leb (length text) (length out)) (Ok (length text)) (Err Room)
   pub bytes_are : out' ≡ cond (leb (length text) (length out)) (sets out 0 text) out
 
-abbrev pub Given : Written → Type 0
-Given (Done n) = Unit {0}
-Given (Refused number) = ⊥
+abbrev pub Given : Result ℕ Refusal → Type 0
+Given (Ok n) = Unit {0}
+Given (Err _) = ⊥
 
-abbrev pub Enough : ℕ → List ℕ → Written → Type 0
+abbrev pub Enough : ℕ → List ℕ → Result ℕ Refusal → Type 0
 Enough k out r = k ≤ length out → Given r

@@ -1,33 +1,26 @@
 // The texts that the programs print, put into lent bytes.
 #![tactic(auto)]
 
-ghost use Rattle.std.specs.Prelude.{◌≡◌, ◌+◌, ◌^◌, ◌≤◌, ◌<◌, length, set};
+ghost use Rattle.std.specs.Prelude.{◌≡◌, ◌+◌, ◌^◌, ◌≤◌, ◌<◌, length};
+ghost use Rattle.refusal.specs.Refusals.{number_of};
 ghost use Rattle.text.specs.Decimal.{decimal};
 ghost use Rattle.text.specs.Text.{refused_text, refused_at_text, value_text, values_text, ok_text, lines_text, PutsAt, Puts, Enough};
 ghost use Rattle.text.specs.Committed.{committed_from, flag_text, Lines};
 
-use house_write::Written;
+use house_file::FileFault;
+use refusal::Refusal;
 
 // Bytes at a place, and the place after them. A byte past the end is dropped, so the same functions count a text.
-
-fn put8(v: u8, out: &mut [u8], at: usize)
-    ensures { out.new ≡ set out.old at v }
-{
-    if at < out.len() {
-        out[at] = v;
-    }
-}
 
 pub fn put(text: &[u8], out: &mut [u8], at: usize) -> usize
     requires { (length text.now ≤ 4096) × (at < 2 ^ 62) }
     ensures { PutsAt text.now out.old at result out.new }
 {
-    let mut i = 0;
-    while i < text.len() {
-        put8(text[i], out, at + i);
-        i = i + 1;
+    let n = text.len();
+    for i in 0..n {
+        house_file::put(out, at + i, text[i]);
     }
-    at + i
+    at + n
 }
 
 fn put_decimal(n: usize, out: &mut [u8], at: usize) -> usize
@@ -36,11 +29,11 @@ fn put_decimal(n: usize, out: &mut [u8], at: usize) -> usize
     ensures upper_bound { result ≤ at + 20 }
 {
     if n < 10 {
-        put8((48 + n) as u8, out, at);
+        house_file::put(out, at, (48 + n) as u8);
         return at + 1;
     }
     let next = put_decimal(n / 10, out, at);
-    put8((48 + n % 10) as u8, out, next);
+    house_file::put(out, next, (48 + n % 10) as u8);
     next + 1
 }
 
@@ -50,7 +43,7 @@ fn put_value(v: usize, out: &mut [u8], at: usize) -> usize
     ensures puts_at { PutsAt (value_text v) out.old at result out.new }
     ensures upper_bound { result ≤ at + 21 }
 {
-    put8(32, out, at);
+    house_file::put(out, at, 32);
     put_decimal(v, out, at + 1)
 }
 
@@ -59,11 +52,9 @@ fn put_values(vs: &[usize], out: &mut [u8], at: usize) -> usize
     ensures puts_at { PutsAt (values_text vs.now) out.old at result out.new }
     ensures upper_bound { result ≤ at + 336 }
 {
-    let mut i = 0;
     let mut p = at;
-    while i < vs.len() {
-        p = put_value(vs[i], out, p);
-        i = i + 1;
+    for &v in vs {
+        p = put_value(v, out, p);
     }
     p
 }
@@ -116,72 +107,65 @@ fn put_lines(flags: &[u8], out: &mut [u8]) -> usize
     ensures puts_at { PutsAt (lines_text (committed_from 0 flags.now)) out.old 0 result out.new }
     ensures upper_bound { result ≤ 86016 }
 {
-    let mut i = 0;
     let mut p = 0;
-    while i < flags.len() {
+    for i in 0..flags.len() {
         p = put_flag(flags[i], i, out, p);
-        i = i + 1;
     }
     p
 }
 
 // A text is counted first, by putting it where all of it but a byte is dropped: one that does not fit is not begun.
+// Kept: four functions: one over a closure that puts the text is no plainer, its clause would name what the closure leaves.
 
 // `refused N` and a newline.
-pub fn refused_line(number: u8, out: &mut [u8]) -> Written
-    ensures puts { Puts (refused_text number) out.old result out.new }
+pub fn refused_line(refusal: Refusal, out: &mut [u8]) -> Result<usize, Refusal>
+    ensures puts { Puts (refused_text (number_of refusal)) out.old result out.new }
     ensures enough { Enough 29 out.old result }
 {
+    let number = refusal.number() as usize;
     let mut none = [0u8; 1];
-    let n = put_refused(number as usize, &mut none);
+    let n = put_refused(number, &mut none);
     if out.len() < n {
-        return Written::Refused {
-            number: house_file::ROOM,
-        };
+        return Err(Refusal::Room);
     }
-    put_refused(number as usize, out);
-    Written::Done { length: n }
+    put_refused(number, out);
+    Ok(n)
 }
 
 // `refused N at OFFSET` and a newline.
-pub fn refused_at_line(number: u8, at: usize, out: &mut [u8]) -> Written
-    ensures puts { Puts (refused_at_text number at) out.old result out.new }
+pub fn refused_at_line(fault: FileFault, out: &mut [u8]) -> Result<usize, Refusal>
+    ensures puts { Puts (refused_at_text (number_of fault.refusal) fault.at) out.old result out.new }
     ensures enough { Enough 53 out.old result }
 {
+    let number = fault.refusal.number() as usize;
     let mut none = [0u8; 1];
-    let n = put_refused_at(number as usize, at, &mut none);
+    let n = put_refused_at(number, fault.at, &mut none);
     if out.len() < n {
-        return Written::Refused {
-            number: house_file::ROOM,
-        };
+        return Err(Refusal::Room);
     }
-    put_refused_at(number as usize, at, out);
-    Written::Done { length: n }
+    put_refused_at(number, fault.at, out);
+    Ok(n)
 }
 
 // The wires whose flag is not 0, rising, each on a line of its own.
-pub fn committed_lines(flags: &[u8], out: &mut [u8]) -> Written
+pub fn committed_lines(flags: &[u8], out: &mut [u8]) -> Result<usize, Refusal>
     ensures lines { Lines flags.now out.old result out.new }
     ensures enough { length flags.now ≤ 4096 → Enough 86016 out.old result }
 {
     if lower::MAX_WIRES < flags.len() {
-        return Written::Refused {
-            number: lower::FULL,
-        };
+        return Err(Refusal::Full);
     }
     let mut none = [0u8; 1];
     let n = put_lines(flags, &mut none);
     if out.len() < n {
-        return Written::Refused {
-            number: house_file::ROOM,
-        };
+        return Err(Refusal::Room);
     }
     put_lines(flags, out);
-    Written::Done { length: n }
+    Ok(n)
 }
 
 // `ok`, each value after a space, and a newline.
-pub fn ok_line(vs: &[usize], out: &mut [u8]) -> Written
+pub fn ok_line(vs: &[usize], out: &mut [u8]) -> Result<usize, Refusal>
     requires { length vs.now ≤ 16 }
     ensures puts { Puts (ok_text vs.now) out.old result out.new }
     ensures enough { Enough 339 out.old result }
@@ -189,10 +173,8 @@ pub fn ok_line(vs: &[usize], out: &mut [u8]) -> Written
     let mut none = [0u8; 1];
     let n = put_ok(vs, &mut none);
     if out.len() < n {
-        return Written::Refused {
-            number: house_file::ROOM,
-        };
+        return Err(Refusal::Room);
     }
     put_ok(vs, out);
-    Written::Done { length: n }
+    Ok(n)
 }

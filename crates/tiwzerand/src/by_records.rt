@@ -1,11 +1,13 @@
 // The functions over definition records: one array in the place of destinations and right sides, of any length.
+// Kept: beside those over numbers, since each exported name is a function of its own (the C interface).
 ghost use Rattle.std.specs.Prelude.{[]};
 ghost use Rattle.fill_back.specs.Filling.{FillsIs};
 ghost use Rattle.records.specs.Records.{dsts_of, rhss_of, stores_by, lent_by};
 ghost use Rattle.tiwzerand.specs.Exported.{sizes, Reads, FusesTo, Writes, Evaluates};
 
-use lower::Sizes;
-use records::Definition;
+use crate::sizes;
+use operand::TermStores;
+use records::{Definition, LentRecords};
 
 // `tiwzerand_fuse` over records.
 #[unsafe(no_mangle)]
@@ -29,14 +31,7 @@ pub extern "C" fn tiwzerand_fuse_records(
 ) -> u8
     ensures { FusesTo slots (sizes wires n_ands n_imuls n_bmuls n_zeros n_linears) (lent_by old.now new.old ands.old imuls.old bmuls.old zeros.old defs.old flags.old) (lent_by old.now new.new ands.new imuls.new bmuls.new zeros.new defs.new flags.new) values.old result values.new }
 {
-    let z = Sizes {
-        wires: wires,
-        ands: n_ands,
-        imuls: n_imuls,
-        bmuls: n_bmuls,
-        zeros: n_zeros,
-        linears: n_linears,
-    };
+    let z = sizes(wires, n_ands, n_imuls, n_bmuls, n_zeros, n_linears);
     let answer = records::fuse_records(old, new, ands, imuls, bmuls, zeros, defs, flags, z, slots);
     tell::fused(answer, values)
 }
@@ -80,15 +75,16 @@ pub extern "C" fn tiwzerand_write_records<'a>(
 ) -> u8
     ensures { Writes (sizes wires n_ands n_imuls n_bmuls n_zeros n_linears) (stores_by old.now new.now ands.now imuls.now bmuls.now zeros.now defs.now) out.old values.old result out.new values.new }
 {
-    let z = Sizes {
-        wires: wires,
-        ands: n_ands,
-        imuls: n_imuls,
-        bmuls: n_bmuls,
-        zeros: n_zeros,
-        linears: n_linears,
+    let system = LentRecords {
+        stores: TermStores { old, new },
+        ands,
+        imuls,
+        bmuls,
+        zeros,
+        defs,
+        sizes: sizes(wires, n_ands, n_imuls, n_bmuls, n_zeros, n_linears),
     };
-    let answer = records::files::write_records(old, new, ands, imuls, bmuls, zeros, defs, z, out);
+    let answer = records::files::write_records(&system, out);
     tell::written(answer, values)
 }
 
@@ -114,17 +110,16 @@ pub extern "C" fn tiwzerand_evaluate_records<'a>(
 ) -> u8
     ensures { Evaluates (sizes wires n_ands n_imuls n_bmuls n_zeros n_linears) (stores_by old.now new.now ands.now imuls.now bmuls.now zeros.now defs.now) assignment.now out.old values.old result out.new values.new }
 {
-    let z = Sizes {
-        wires: wires,
-        ands: n_ands,
-        imuls: n_imuls,
-        bmuls: n_bmuls,
-        zeros: n_zeros,
-        linears: n_linears,
+    let system = LentRecords {
+        stores: TermStores { old, new },
+        ands,
+        imuls,
+        bmuls,
+        zeros,
+        defs,
+        sizes: sizes(wires, n_ands, n_imuls, n_bmuls, n_zeros, n_linears),
     };
-    let answer = records::values::evaluate_records(
-        old, new, ands, imuls, bmuls, zeros, defs, z, assignment, out,
-    );
+    let answer = records::values::evaluate_records(&system, assignment, out);
     tell::evaluated(answer, values)
 }
 
@@ -148,13 +143,14 @@ pub extern "C" fn tiwzerand_fill_back_records(
 ) -> u8
     ensures { FillsIs (sizes wires n_ands n_imuls n_bmuls n_zeros n_linears) (stores_by old.now [] ands.now imuls.now bmuls.now zeros.now defs.now) flags.now assignment.old assignment.new result }
 {
-    let z = Sizes {
-        wires: wires,
-        ands: n_ands,
-        imuls: n_imuls,
-        bmuls: n_bmuls,
-        zeros: n_zeros,
-        linears: n_linears,
+    let system = LentRecords {
+        stores: TermStores { old, new: &[] },
+        ands,
+        imuls,
+        bmuls,
+        zeros,
+        defs,
+        sizes: sizes(wires, n_ands, n_imuls, n_bmuls, n_zeros, n_linears),
     };
-    records::fill_back_records(old, ands, imuls, bmuls, zeros, defs, z, flags, assignment)
+    crate::number(records::fill_back_records(&system, flags, assignment))
 }

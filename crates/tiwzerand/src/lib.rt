@@ -1,29 +1,59 @@
 // The library for C and Rust. A slice is a pointer and a length; each function returns 0, or the refusal's number, and lays an answer's
 // values in a lent slice. Nothing is asked of the numbers handed in.
+// Kept: the parameters of the exported functions, one by one (the C interface).
 #![tactic(auto)]
 
 ghost use Rattle.std.specs.Prelude.{◌≡◌, []};
+ghost use Rattle.refusal.specs.Refusals.{fault_in};
 ghost use Rattle.lower.specs.Stores.{stores};
 ghost use Rattle.fusion.specs.Left.{lent};
 ghost use Rattle.fill_back.specs.Filling.{FillsIs};
 ghost use Rattle.tell.specs.Gives.{Gives};
 ghost use Rattle.tiwzerand.specs.Exported.{sizes, composed_at, compose_told, pushed_at, push_told, Reads, Writes, FusesTo, Evaluates};
 
-use lower::Sizes;
-use operand::Pushed;
-use shift::{Composed, Found, Shift};
+use lower::{LentSystem, Sizes};
+use operand::{PushInner, TermStores};
+use refusal::Refusal;
+use shift::{Composition, Shift};
 
 pub mod by_records;
 
-fn composed(inner: u64, outer: u64) -> Composed
+// The sizes of a system, each handed in by itself.
+fn sizes(
+    wires: usize,
+    ands: usize,
+    imuls: usize,
+    bmuls: usize,
+    zeros: usize,
+    linears: usize,
+) -> Sizes
+    ensures { result ≡ sizes wires ands imuls bmuls zeros linears }
+{
+    Sizes {
+        wires,
+        ands,
+        imuls,
+        bmuls,
+        zeros,
+        linears,
+    }
+}
+
+// The number of an answer that has no values.
+fn number(answer: Result<(), Refusal>) -> u8
+    ensures { result ≡ fault_in answer }
+{
+    match answer {
+        Ok(()) => 0,
+        Err(refusal) => refusal.number(),
+    }
+}
+
+fn composed(inner: u64, outer: u64) -> Result<Composition, Refusal>
     ensures { result ≡ composed_at inner outer }
 {
-    let Found::Valid(i) = Shift::from_index(inner) else {
-        return Composed::Refused;
-    };
-    let Found::Valid(o) = Shift::from_index(outer) else {
-        return Composed::Refused;
-    };
+    let i = Shift::from_index(inner)?;
+    let o = Shift::from_index(outer)?;
     Shift::compose(i, o)
 }
 
@@ -35,18 +65,12 @@ pub extern "C" fn tiwzerand_compose(inner: u64, outer: u64, values: &mut [u64]) 
     tell::composed(composed(inner, outer), values)
 }
 
-fn pushed(inner: u64, outer: u64, shift: u64, slots: u64) -> Pushed
+fn pushed(inner: u64, outer: u64, shift: u64, slots: u64) -> Result<PushInner, Refusal>
     ensures { result ≡ pushed_at inner outer shift slots }
 {
-    let Found::Valid(i) = Shift::from_index(inner) else {
-        return Pushed::Refused;
-    };
-    let Found::Valid(o) = Shift::from_index(outer) else {
-        return Pushed::Refused;
-    };
-    let Found::Valid(s) = Shift::from_index(shift) else {
-        return Pushed::Refused;
-    };
+    let i = Shift::from_index(inner)?;
+    let o = Shift::from_index(outer)?;
+    let s = Shift::from_index(shift)?;
     operand::push_inner(i, o, s, slots as usize)
 }
 
@@ -79,17 +103,8 @@ pub extern "C" fn tiwzerand_read(
 ) -> u8
     ensures { Reads input.now terms.old ands.old imuls.old bmuls.old zeros.old dsts.old rhss.old values.old result terms.new ands.new imuls.new bmuls.new zeros.new dsts.new rhss.new values.new }
 {
-    let answer = house_read::read(
-        input,
-        &mut *terms,
-        &mut *ands,
-        &mut *imuls,
-        &mut *bmuls,
-        &mut *zeros,
-        &mut *dsts,
-        &mut *rhss,
-    );
-    tell::read(answer, &mut *values)
+    let answer = house_read::read(input, terms, ands, imuls, bmuls, zeros, dsts, rhss);
+    tell::read(answer, values)
 }
 
 // The values: gone, stranded, committed, terms written, kept.
@@ -115,28 +130,11 @@ pub extern "C" fn tiwzerand_fuse(
 ) -> u8
     ensures { FusesTo slots (sizes wires n_ands n_imuls n_bmuls n_zeros n_linears) (lent old.now new.old ands.old imuls.old bmuls.old zeros.old dsts.old rhss.old flags.old) (lent old.now new.new ands.new imuls.new bmuls.new zeros.new dsts.new rhss.new flags.new) values.old result values.new }
 {
-    let z = Sizes {
-        wires: wires,
-        ands: n_ands,
-        imuls: n_imuls,
-        bmuls: n_bmuls,
-        zeros: n_zeros,
-        linears: n_linears,
-    };
+    let z = sizes(wires, n_ands, n_imuls, n_bmuls, n_zeros, n_linears);
     let answer = fusion::fuse(
-        old,
-        &mut *new,
-        &mut *ands,
-        &mut *imuls,
-        &mut *bmuls,
-        &mut *zeros,
-        &mut *dsts,
-        &mut *rhss,
-        &mut *flags,
-        z,
-        slots,
+        old, new, ands, imuls, bmuls, zeros, dsts, rhss, flags, z, slots,
     );
-    tell::fused(answer, &mut *values)
+    tell::fused(answer, values)
 }
 
 // Writes the system as a house file. The value: its length.
@@ -161,18 +159,18 @@ pub extern "C" fn tiwzerand_write<'a>(
 ) -> u8
     ensures { Writes (sizes wires n_ands n_imuls n_bmuls n_zeros n_linears) (stores old.now new.now ands.now imuls.now bmuls.now zeros.now dsts.now rhss.now) out.old values.old result out.new values.new }
 {
-    let z = Sizes {
-        wires: wires,
-        ands: n_ands,
-        imuls: n_imuls,
-        bmuls: n_bmuls,
-        zeros: n_zeros,
-        linears: n_linears,
+    let system = LentSystem {
+        stores: TermStores { old, new },
+        ands,
+        imuls,
+        bmuls,
+        zeros,
+        dsts,
+        rhss,
+        sizes: sizes(wires, n_ands, n_imuls, n_bmuls, n_zeros, n_linears),
     };
-    let answer = house_write::write(
-        old, new, ands, imuls, bmuls, zeros, dsts, rhss, z, &mut *out,
-    );
-    tell::written(answer, &mut *values)
+    let answer = house_write::write(&system, out);
+    tell::written(answer, values)
 }
 
 // The values of all operands, in the writer's order, to `out`. The value: how many.
@@ -198,18 +196,18 @@ pub extern "C" fn tiwzerand_evaluate<'a>(
 ) -> u8
     ensures { Evaluates (sizes wires n_ands n_imuls n_bmuls n_zeros n_linears) (stores old.now new.now ands.now imuls.now bmuls.now zeros.now dsts.now rhss.now) assignment.now out.old values.old result out.new values.new }
 {
-    let z = Sizes {
-        wires: wires,
-        ands: n_ands,
-        imuls: n_imuls,
-        bmuls: n_bmuls,
-        zeros: n_zeros,
-        linears: n_linears,
+    let system = LentSystem {
+        stores: TermStores { old, new },
+        ands,
+        imuls,
+        bmuls,
+        zeros,
+        dsts,
+        rhss,
+        sizes: sizes(wires, n_ands, n_imuls, n_bmuls, n_zeros, n_linears),
     };
-    let answer = evaluate::evaluate(
-        old, new, ands, imuls, bmuls, zeros, dsts, rhss, z, assignment, &mut *out,
-    );
-    tell::evaluated(answer, &mut *values)
+    let answer = evaluate::evaluate(&system, assignment, out);
+    tell::evaluated(answer, values)
 }
 
 // Gives each defined wire that is not committed the value of its definition. The system is the one before fusing.
@@ -233,24 +231,15 @@ pub extern "C" fn tiwzerand_fill_back(
 ) -> u8
     ensures { FillsIs (sizes wires n_ands n_imuls n_bmuls n_zeros n_linears) (stores old.now [] ands.now imuls.now bmuls.now zeros.now dsts.now rhss.now) flags.now assignment.old assignment.new result }
 {
-    let z = Sizes {
-        wires: wires,
-        ands: n_ands,
-        imuls: n_imuls,
-        bmuls: n_bmuls,
-        zeros: n_zeros,
-        linears: n_linears,
-    };
-    fill_back::fill_back(
-        old,
+    let system = LentSystem {
+        stores: TermStores { old, new: &[] },
         ands,
         imuls,
         bmuls,
         zeros,
         dsts,
         rhss,
-        z,
-        flags,
-        &mut *assignment,
-    )
+        sizes: sizes(wires, n_ands, n_imuls, n_bmuls, n_zeros, n_linears),
+    };
+    number(fill_back::fill_back(&system, flags, assignment))
 }

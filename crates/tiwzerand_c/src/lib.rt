@@ -1,4 +1,5 @@
 // The library for C: the archive's functions. Each calls the function of that name of the library `tiwzerand`, and promises the same.
+// Kept: one function for each exported name, its parameters one by one (the C interface).
 #![tactic(auto)]
 
 ghost use Rattle.std.specs.Prelude.{[]};

@@ -2,4 +2,3 @@ pub mod Bits
 pub mod Moves
 pub mod Probes
 mod Turns
-mod Answered

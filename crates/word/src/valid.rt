@@ -1,5 +1,5 @@
 // The eight shifts of a word, for an amount below the width. Follows core/src/word.rs.
-ghost use Rattle.std.specs.Prelude.{◌≡◌, ◌+◌, ◌*◌, ◌^◌, ◌<◌};
+ghost use Rattle.std.specs.Prelude.{◌≡◌, ℕ, ◌+◌, ◌*◌, ◌/◌, ◌%◌, ◌^◌, ◌<◌};
 ghost use Rattle.word.specs.Word.{left, right, arith_right, turn, halves};
 
 pub fn sll(w: u64, n: u32) -> u64
@@ -16,92 +16,60 @@ pub fn slr(w: u64, n: u32) -> u64
     w >> n
 }
 
-// A negative word is the complement of one that is not, and division rounded down commutes with the complement.
+#[tactic(auto, using(crate::proofs::Turns::signed_right))]
 pub fn sar(w: u64, n: u32) -> u64
     requires { n < 64 }
     ensures { result ≡ arith_right 64 n w }
 {
-    if w < 0x8000_0000_0000_0000 {
-        w >> n
-    } else {
-        0xffff_ffff_ffff_ffff - ((0xffff_ffff_ffff_ffff - w) >> n)
-    }
+    (w.cast_signed() >> n).cast_unsigned()
 }
 
+#[tactic(auto, using(crate::proofs::Turns::rotate_turn))]
 pub fn rotr(w: u64, n: u32) -> u64
     requires { n < 64 }
     ensures { result ≡ turn 64 n w }
 {
-    if n == 0 {
-        return w;
-    }
-    (w >> n) | (w << (64 - n))
+    w.rotate_right(n)
 }
 
-// The same on a half, a number of 32 bits.
-fn left_half(h: u64, n: u32) -> u64
-    requires { (h < 2 ^ 32) × (n < 32) }
-    ensures { (result ≡ left 32 n h) × (result < 2 ^ 32) }
+// What `half` does to 32 bits, done to each half of a word apart.
+pub fn by_halves<F: Fn(u32) -> u32>(w: u64, half: F) -> u64
+    requires { F.IsAlwaysCallable half }
+    ensures { (hi : ℕ) × (lo : ℕ) × F.post half (w / 2 ^ 32) hi × F.post half (w % 2 ^ 32) lo × (result ≡ hi * 2 ^ 32 + lo) }
 {
-    (h << n) % 0x1_0000_0000
+    let hi = half((w >> 32) as u32);
+    let lo = half((w % 0x1_0000_0000) as u32);
+    ((hi as u64) << 32) | (lo as u64)
 }
 
-fn right_half(h: u64, n: u32) -> u64
-    requires { (h < 2 ^ 32) × (n < 32) }
-    ensures { (result ≡ right n h) × (result < 2 ^ 32) }
-{
-    h >> n
-}
-
-fn arith_half(h: u64, n: u32) -> u64
-    requires { (h < 2 ^ 32) × (n < 32) }
-    ensures { (result ≡ arith_right 32 n h) × (result < 2 ^ 32) }
-{
-    if h < 0x8000_0000 {
-        h >> n
-    } else {
-        0xffff_ffff - ((0xffff_ffff - h) >> n)
-    }
-}
-
-fn turn_half(h: u64, n: u32) -> u64
-    requires { (h < 2 ^ 32) × (n < 32) }
-    ensures { (result ≡ turn 32 n h) × (result < 2 ^ 32) }
-{
-    (h >> n) | ((h << (32 - n)) % 0x1_0000_0000)
-}
-
-fn join(hi: u64, lo: u64) -> u64
-    requires { (hi < 2 ^ 32) × (lo < 2 ^ 32) }
-    ensures { result ≡ hi * 2 ^ 32 + lo }
-{
-    (hi << 32) | lo
-}
-
+#[tactic(auto, unfolding(crate::specs::Word::halves))]
 pub fn sll32(w: u64, n: u32) -> u64
     requires { n < 32 }
     ensures { result ≡ halves (left 32 n) w }
 {
-    join(left_half(w >> 32, n), left_half(w % 0x1_0000_0000, n))
+    by_halves(w, |h| h << n)
 }
 
+#[tactic(auto, unfolding(crate::specs::Word::halves))]
 pub fn srl32(w: u64, n: u32) -> u64
     requires { n < 32 }
     ensures { result ≡ halves (right n) w }
 {
-    join(right_half(w >> 32, n), right_half(w % 0x1_0000_0000, n))
+    by_halves(w, |h| h >> n)
 }
 
+#[tactic(auto, using(crate::proofs::Turns::signed_right), unfolding(crate::specs::Word::halves))]
 pub fn sra32(w: u64, n: u32) -> u64
     requires { n < 32 }
     ensures { result ≡ halves (arith_right 32 n) w }
 {
-    join(arith_half(w >> 32, n), arith_half(w % 0x1_0000_0000, n))
+    by_halves(w, |h| (h.cast_signed() >> n).cast_unsigned())
 }
 
+#[tactic(auto, using(crate::proofs::Turns::rotate_turn), unfolding(crate::specs::Word::halves))]
 pub fn rotr32(w: u64, n: u32) -> u64
     requires { n < 32 }
     ensures { result ≡ halves (turn 32 n) w }
 {
-    join(turn_half(w >> 32, n), turn_half(w % 0x1_0000_0000, n))
+    by_halves(w, |h| h.rotate_right(n))
 }

@@ -2,22 +2,26 @@
 use Rattle.apply.proofs.Kept.{kept_long, struck-told, filled}
 use Rattle.apply.specs.Applied.{untouched}
 use lib.ListN.{drop}
+use lib.Seq.{sets}
 use native.Mathlib.Omega.{arith}
-use Prim.Native.Nat.{ℕ, ◌+◌}
-use mathlib.Core.Path.{sym, ap}
+use Prim.Native.Nat.{ℕ}
+use mathlib.Core.Path.{sym, ap, ◌∙◌}
 use Rattle.apply.proofs.patch_rows.Goals as goal
 
-pub overflow_sub-left : goal.overflow_sub-left
-overflow_sub-left c = omega (arith, kept_long (untouched c.args.old.now c.args.new.now c.args.table.now) c.args.k c.args.n c.args.hs.now, c.retain_unsubsumed-at.ensures.value)
+pub overflow_sub-k : goal.overflow_sub-k
+overflow_sub-k c = omega (arith, kept_long (untouched c.args.stores.now.old.now c.args.stores.now.new.now c.args.table.now) c.args.k c.args.n c.args.hs.now, c.retain_unsubsumed-at.ensures.value)
+
+pub split_at-requires : goal.split_at-requires
+split_at-requires c = omega (arith, struck-told (untouched c.args.stores.now.old.now c.args.stores.now.new.now c.args.table.now) c.args.k c.args.hs.now c.args.n c.retain_unsubsumed-at.result c.retain_unsubsumed-at.ensures.value, c.requires.list_there)
 
 pub extend-requires : goal.extend-requires
-extend-requires c = let q = untouched c.args.old.now c.args.new.now c.args.table.now in
-    let g = kept_long q c.args.k c.args.n c.args.hs.now in let t = struck-told q c.args.k c.args.hs.now c.args.n c.retain_unsubsumed-at.result c.retain_unsubsumed-at.ensures.value in
-    (omega (arith, g, c.retain_unsubsumed-at.ensures.value, c.retain_unsubsumed-at.auto, c.requires.rows.0), omega (arith, t, c.requires.hs_in_bounds))
-
-pub overflow_add-result : goal.overflow_add-result
-overflow_add-result c = let q = untouched c.args.old.now c.args.new.now c.args.table.now in
-    omega (arith, struck-told q c.args.k c.args.hs.now c.args.n c.retain_unsubsumed-at.result c.retain_unsubsumed-at.ensures.value, c.requires.hs_in_bounds)
+extend-requires c =
+    let g = kept_long (untouched c.args.stores.now.old.now c.args.stores.now.new.now c.args.table.now) c.args.k c.args.n c.args.hs.now in
+    omega (arith, g, c.retain_unsubsumed-at.ensures.value, c.retain_unsubsumed-at.auto.hs, c.split_at.ensures.front_len, c.requires.rows.0)
 
 pub returns : goal.returns
-returns c = let q = untouched c.args.old.now c.args.new.now c.args.table.now in record { hs_after = filled q c.args.k c.args.hs.now c.args.n c.retain_unsubsumed-at.result c.retain_unsubsumed-at.ensures.value _ _ (drop c.args.from c.args.list.now) c.retain_unsubsumed-at.ensures.hs_after c.extend.ensures; value = sym (ap (λ (m : ℕ). c.args.from + m) (struck-told q c.args.k c.args.hs.now c.args.n c.retain_unsubsumed-at.result c.retain_unsubsumed-at.ensures.value)) }
+returns c =
+    let q = untouched c.args.stores.now.old.now c.args.stores.now.new.now c.args.table.now in record {
+      hs_after = filled q c.args.k c.args.hs.now c.args.n c.retain_unsubsumed-at.result c.retain_unsubsumed-at.ensures.value _ _ c.args.list.now c.retain_unsubsumed-at.ensures.hs_after (c.extend.ensures ∙ ap (sets c.retain_unsubsumed-at.new.hs c.retain_unsubsumed-at.result) c.split_at.ensures.front);
+      rest = c.split_at.ensures.back ∙ sym (ap (λ (m : ℕ). drop m c.args.list.now) (struck-told q c.args.k c.args.hs.now c.args.n c.retain_unsubsumed-at.result c.retain_unsubsumed-at.ensures.value));
+    }

@@ -1,12 +1,8 @@
 use Rattle.apply.specs.Applied.{flags_from}
 use lib.Seq.{sets}
-use lib.ListN.{length}
-use Prim.Native.Nat.{◌-◌, ◌≤◌}
+use Prim.Native.Nat.{◌-◌}
 use mathlib.Core.Path.{◌≡◌}
 use Rattle.apply.proofs.write_flags.Given as goal
 
 abbrev pub invariant-loop-w : goal.invariant-loop-w
-invariant-loop-w l = (l.w ≤ l.wires) × (length l.flags ≡ length l.initial.flags) × (sets l.flags l.w (flags_from l.table l.decisions l.w (l.wires - l.w)) ≡ sets l.initial.flags 0 (flags_from l.table l.decisions 0 l.wires))
-
-abbrev pub decreases-loop-w : goal.decreases-loop-w
-decreases-loop-w l = l.wires - l.w
+invariant-loop-w l = sets l.flags l.w (flags_from l.table l.decisions l.w (l.wires - l.w)) ≡ sets l.initial.flags 0 (flags_from l.table l.decisions 0 l.wires)

@@ -1,13 +1,6 @@
 -- A fault is a refusal, and what has none is filled back. Assumes nothing.
-use Rattle.fill_back.specs.Filling.{refused}
-use mathlib.Core.Path.{refl, sym, ◌∙◌}
+use Rattle.fill_back.proofs.Running.{refused_exit}
 use Rattle.fill_back.proofs.fill_back.Goals as goal
 
-pub returns-then-fault-ne0 : goal.returns-then-fault-ne0
-returns-then-fault-ne0 c = refused c.check_all-fault.ensures c.if-fault-ne0.true refl
-
-pub fill_checked-requires : goal.fill_checked-requires
-fill_checked-requires c = sym c.check_all-fault.ensures ∙ c.if-fault-ne0.false
-
-pub returns : goal.returns
-returns c = c.fill_checked.ensures
+pub returns-in_err-check_all : goal.returns-in_err-check_all
+returns-in_err-check_all c = refused_exit _ _ _ _ _ _ c.from_residual.ensures.1 c.in_err-check_all.ensures

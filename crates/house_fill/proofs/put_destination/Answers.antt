@@ -12,4 +12,4 @@ returns-then-tag-ne-LINEAR c =
 pub returns : goal.returns
 returns c =
     let e = destination_linear c.args.s.now c.args.at (sym c.byte-tag.ensures.0 ∙ c.if-tag-ne-LINEAR.false) in
-    rw e (omega arith, (omega arith, c.put_wire.ensures ∙ rw c.num.ensures.0))
+    rw e (omega arith, (omega arith, c.put.ensures ∙ rw c.num.ensures.0))

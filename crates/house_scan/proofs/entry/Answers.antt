@@ -1,33 +1,26 @@
--- The payload's fault comes first, then 6; with neither the reading goes on after the field. Assumes nothing.
-use mathlib.Core.Path.{◌≡◌, sym, ◌∙◌}
-use native.Mathlib.Omega.{arith}
-use Rattle.house_scan.proofs.Laws.{part_fine, within_fine, entry_bad, entry_fine, entry_full, entry_go}
+-- The payload's fault comes first, then 6; with neither the counts have the field. Assumes nothing.
+use mathlib.Core.Path.{ap, ◌∙◌}
+use Rattle.std.proofs.lemmas.Result.{err_from_is_err_and}
+use Rattle.house_file.specs.Reading.{counted, full_fault}
+use Rattle.house_file.proofs.Faults.{first_told}
+use Rattle.house_scan.specs.Parts.{entry_fault}
 use Rattle.house_scan.proofs.entry.Goals as goal
 
-pub tally-d-requires : goal.tally-d-requires
-tally-d-requires c = (c.requires.0, omega (arith, within_fine _ _ c.in-Fine.is c.payload.ensures.1))
+pub returns-in_err-terms-clause-fault : goal.returns-in_err-terms-clause-fault
+unfolding entry_fault
+returns-in_err-terms-clause-fault c =
+    let p = err_from_is_err_and c.from_residual.result c.from_residual.ensures.1 in
+    rw (p.1, p.2) (first_told _ _ c.in_err-terms.ensures.fault)
 
-pub returns-then-f-gt0 : goal.returns-then-f-gt0
-returns-then-f-gt0 c =
-    let e = part_fine _ _ _ _ _ _ (sym c.payload.ensures.0 ∙ c.in-Fine.is) in (
-      cc (
-        entry_full c.full-f.result c.args.end c.tally-d.result c.args.at c.if-f-gt0.true,
-        entry_fine c.args.s.now c.args.wires c.args.c c.args.tag c.args.end c.args.at c.in-Fine.terms e.fault e.terms_is,
-      ),
-      tt,
-    )
+pub returns-in_err-full-clause-fault : goal.returns-in_err-full-clause-fault
+unfolding entry_fault
+returns-in_err-full-clause-fault c =
+    let p = err_from_is_err_and c.from_residual-in_err-full.result c.from_residual-in_err-full.ensures.1 in
+    let k = c.tally-counts.ensures.0 ∙ ap (counted c.args.c c.args.head.tag) c.in_ok-terms.ensures.terms.are in
+    rw (p.1, p.2, ← c.in_ok-terms.ensures.fault) (c.in_err-full.ensures.fault ∙ ap full_fault k)
 
-pub returns-in-Bad : goal.returns-in-Bad
-returns-in-Bad c =
-    (entry_bad c.args.s.now c.args.wires c.args.c c.args.tag c.args.end c.args.at _ _ _ _ (sym c.payload.ensures.0 ∙ c.in-Bad.is), tt)
-
-pub returns-else-f-gt0 : goal.returns-else-f-gt0
-returns-else-f-gt0 c =
-    let e = part_fine _ _ _ _ _ _ (sym c.payload.ensures.0 ∙ c.in-Fine.is) in
-    let f : c.full-f.result ≡ 0 = omega arith in (
-      cc (
-        entry_go c.full-f.result c.args.end c.tally-d.result c.args.at f,
-        entry_fine c.args.s.now c.args.wires c.args.c c.args.tag c.args.end c.args.at c.in-Fine.terms e.fault e.terms_is,
-      ),
-      (omega arith, (omega arith, c.full-f.ensures.1 f)),
-    )
+pub returns-clause-fault : goal.returns-clause-fault
+unfolding entry_fault
+returns-clause-fault c =
+    let k = c.tally-counts.ensures.0 ∙ ap (counted c.args.c c.args.head.tag) c.in_ok-terms.ensures.terms.are in
+    rw (← c.in_ok-terms.ensures.fault) (c.in_ok-full.ensures.fault ∙ ap full_fault k)

@@ -1,23 +1,26 @@
 -- What is left to read has the answer of the whole; each field has three bytes, so the reading ends. Assumes nothing.
-use mathlib.Core.Path.{refl, sym, ◌∙◌}
+use mathlib.Core.Path.{refl, sym, ap, ◌∙◌}
 use native.Mathlib.Omega.{arith}
 use lib.ListN.{length}
-use Rattle.house_scan.proofs.Laws.{stands_stop, stands_go, onward_go}
+use Rattle.std.specs.Prelude.{Ok}
+use Rattle.std.proofs.lemmas.Result.{err_from_is_err_and}
+use Rattle.house_file.specs.Reading.{by_number}
+use Rattle.house_scan.specs.Parts.{Onward}
+use Rattle.house_scan.proofs.Laws.{stands_stop, stands_end, stands_go}
 use Rattle.house_scan.proofs.fields.Goals as goal
 
-pub loop-a-init : goal.loop-a-init
-loop-a-init c = record { fuel = length c.args.s.now; enough = omega arith; same = refl; small = omega arith; inside = omega arith }
+pub loop-next-init : goal.loop-next-init
+loop-next-init c = record { fuel = length c.args.s.now; enough = omega arith; same = refl; small = omega arith; inside = omega arith }
 
-pub one_field-requires : goal.one_field-requires
-one_field-requires c = (c.loop-a.invariant.small, c.loop-a.invariant.inside)
+pub returns-in_err-next : goal.returns-in_err-next
+returns-in_err-next c =
+    let p = err_from_is_err_and c.from_residual.result c.from_residual.ensures.1 in
+    rw (p.1, p.2) (stands_stop c.loop-next.invariant _ c.in_err-next.ensures.turn)
 
-pub returns-in-Stop : goal.returns-in-Stop
-returns-in-Stop c =
-    stands_stop c.loop-a.invariant _ (sym c.one_field.ensures.0 ∙ c.in-Stop.is)
+pub loop-next-preserved : goal.loop-next-preserved
+loop-next-preserved c =
+    stands_go c.loop-next.invariant c.in-Some.next (rw c.in-Some.is at c.in_ok-next.ensures.turn) (rw c.in-Some.is at c.in_ok-next.ensures.onward)
 
-pub loop-a-smaller : goal.loop-a-smaller
-loop-a-smaller c = omega (arith, onward_go _ _ c.in-Go.is c.one_field.ensures.1)
-
-pub loop-a-preserved : goal.loop-a-preserved
-loop-a-preserved c =
-    stands_go c.loop-a.invariant _ _ (sym c.one_field.ensures.0 ∙ c.in-Go.is) (onward_go _ _ c.in-Go.is c.one_field.ensures.1)
+pub returns : goal.returns
+returns c =
+    rw c.sizes.ensures (sym (stands_end c.loop-next.invariant (rw c.in_default.is at c.in_ok-next.ensures.turn)))

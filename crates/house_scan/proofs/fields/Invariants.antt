@@ -3,8 +3,8 @@ use lib.ListN.{length}
 use Rattle.house_scan.proofs.Laws.{Stands}
 use Rattle.house_scan.proofs.fields.Given as goal
 
-abbrev pub invariant-loop-a : goal.invariant-loop-a
-invariant-loop-a l = Stands l.s l.wires l.c l.at
+abbrev pub invariant-loop-next : goal.invariant-loop-next
+invariant-loop-next l = Stands l.s l.wires l.place
 
-abbrev pub decreases-loop-a : goal.decreases-loop-a
-decreases-loop-a l = length l.s - l.at
+abbrev pub decreases-loop-next : goal.decreases-loop-next
+decreases-loop-next l = length l.s - l.place.at

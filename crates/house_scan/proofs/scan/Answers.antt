@@ -1,33 +1,19 @@
--- The first field is tested in the order of the definition; the rest is read from offset 5. Assumes nothing.
-use mathlib.Core.Path.{sym, ◌∙◌}
-use native.Mathlib.Omega.{arith}
-use Rattle.house_scan.proofs.Laws.{head_open, ends_open, scan_shut, scan_shape, scan_zero, scan_over, scan_in}
+-- The first field's fault, or what is read from offset 5. Assumes nothing.
+use mathlib.Core.Path.{◌∙◌}
+use Rattle.std.proofs.lemmas.Result.{err_from_is_err_and}
+use Rattle.house_file.proofs.Faults.{placed_ok, placed_err}
+use Rattle.house_scan.proofs.Laws.{scan_shut, scan_in}
 use Rattle.house_scan.proofs.scan.Goals as goal
 
-pub returns-then-end-ne5 : goal.returns-then-end-ne5
-returns-then-end-ne5 c =
-    let o = head_open _ _ _ _ _ (sym c.header.ensures.0 ∙ c.in-Open.is) in
-    scan_shape c.args.s.now o.fault (λ e. c.if-end-ne5.true (omega (arith, o.end_is)))
+pub returns-in_err-wires : goal.returns-in_err-wires
+returns-in_err-wires c =
+    let p = err_from_is_err_and c.from_residual.result c.from_residual.ensures.1 in
+    let q = placed_err _ _ c.in_err-wires.ensures in
+    rw (p.1, p.2, q.here) (scan_shut c.args.s.now _ (rw q.refused at c.wire_count.ensures.fault))
 
-pub returns-then-wires-eq0 : goal.returns-then-wires-eq0
-returns-then-wires-eq0 c =
-    let o = head_open _ _ _ _ _ (sym c.header.ensures.0 ∙ c.in-Open.is) in
-    scan_zero c.args.s.now o.fault (omega (arith, o.end_is)) (omega arith)
-
-pub returns-then-wires-gt-MAX_WIRES : goal.returns-then-wires-gt-MAX_WIRES
-returns-then-wires-gt-MAX_WIRES c =
-    let o = head_open _ _ _ _ _ (sym c.header.ensures.0 ∙ c.in-Open.is) in
-    scan_over c.args.s.now o.fault (omega (arith, o.end_is)) (λ e. c.if-wires-eq0.false (omega arith)) (omega arith)
-
-pub fields-requires : goal.fields-requires
-fields-requires c =
-    omega (arith, ends_open _ _ c.in-Open.is c.header.ensures.1)
-
-pub returns-in-Shut : goal.returns-in-Shut
-returns-in-Shut c =
-    scan_shut c.args.s.now _ _ _ (sym c.header.ensures.0 ∙ c.in-Shut.is)
-
-pub returns-else-wires-gt-MAX_WIRES : goal.returns-else-wires-gt-MAX_WIRES
-returns-else-wires-gt-MAX_WIRES c =
-    let o = head_open _ _ _ _ _ (sym c.header.ensures.0 ∙ c.in-Open.is) in
-    cc (scan_in c.args.s.now o.fault (omega (arith, o.end_is)) (λ e. c.if-wires-eq0.false (omega arith)) (omega arith))
+pub returns : goal.returns
+returns c =
+    let h = placed_ok _ _ c.in_ok-wires.ensures in
+    let f = rw h at c.wire_count.ensures.fault in
+    let k = rw h at c.wire_count.ensures.wires in
+    c.fields.ensures ∙ rw k.are (scan_in c.args.s.now f)

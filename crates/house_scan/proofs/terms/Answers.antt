@@ -1,31 +1,28 @@
--- What is left to look at has the fault of the whole, and goes down by a term a turn. Assumes nothing.
-use mathlib.Core.Path.{◌≡◌, refl, sym, ap, ◌∙◌}
-use Prim.Native.Nat.{ℕ}
+-- What is left to look at has the fault of the whole. Assumes nothing.
+use mathlib.Core.Path.{◌≡◌, sym, ap, ◌∙◌}
+use Prim.Native.Nat.{ℕ, ◌+◌, ◌*◌, ◌-◌}
 use native.Mathlib.Omega.{arith}
-use Rattle.house_scan.proofs.Laws.{part_bad, part_fine, part_done, terms_step, terms_none}
+use Rattle.std.proofs.lemmas.Result.{err_from_is_err_and}
 use Rattle.lower.specs.Faults.{first_fault, term_fault}
 use Rattle.house_file.specs.Decoding.{terms_at}
+use Rattle.house_file.proofs.Faults.{first_told}
+use Rattle.house_scan.proofs.Laws.{terms_step, terms_go, terms_none}
 use Rattle.house_scan.proofs.terms.Goals as goal
 
-pub loop-left-init : goal.loop-left-init
-loop-left-init c = (refl, omega arith)
+pub returns-in_err-term : goal.returns-in_err-term
+returns-in_err-term c =
+    let a = c.args in
+    let p = err_from_is_err_and c.from_residual.result c.from_residual.ensures.1 in
+    rw (p.1, p.2) (first_told _ _ c.in_err-term.ensures ∙ sym (c.loop-i.invariant ∙ terms_step a.s.now a.wires a.at a.n c.loop-i.i (omega arith)))
 
-pub returns-in-Bad : goal.returns-in-Bad
-returns-in-Bad c =
-    part_bad _ _ _ _ _ _ _ _ _ (sym c.term.ensures ∙ c.in-Bad.is)
-    (c.loop-left.invariant.0 ∙ terms_step c.args.s.now c.args.wires c.loop-left.p c.loop-left.left c.loop-left-test.true)
-
-pub loop-left-preserved : goal.loop-left-preserved
-loop-left-preserved c =
-    let fine = part_fine _ _ _ _ _ _ (sym c.term.ensures ∙ c.in-Fine.is) in (
-      c.loop-left.invariant.0 ∙ terms_step c.args.s.now c.args.wires c.loop-left.p c.loop-left.left c.loop-left-test.true
-          ∙ rw (fine.fault, fine.next_is),
-      omega (arith, fine.next_is),
-    )
+pub loop-i-preserved : goal.loop-i-preserved
+loop-i-preserved c =
+    c.loop-i.invariant ∙ terms_go c.args.s.now c.args.wires c.args.at c.args.n c.loop-i.i (omega arith) c.in_ok-term.ensures
 
 pub returns : goal.returns
 returns c =
-    let done : c.loop-left.left ≡ 0 = omega arith in
-    part_done _ _ _ _ _ _
-    (c.loop-left.invariant.0 ∙ ap (λ (k : ℕ). first_fault (term_fault c.args.wires) (terms_at c.args.s.now k c.loop-left.p)) done ∙ terms_none c.args.s.now c.args.wires c.loop-left.p)
-    (omega arith) refl
+    let a = c.args in
+    let done : a.n - c.loop-i.i ≡ 0 = omega arith in
+    sym (c.loop-i.invariant
+    ∙ ap (λ (k : ℕ). first_fault (term_fault a.wires) (terms_at a.s.now k (a.at + 6 * c.loop-i.i))) done
+    ∙ terms_none a.s.now a.wires (a.at + 6 * c.loop-i.i))

@@ -1,22 +1,23 @@
 -- No fault is that the file can be written; a fault writes nothing. Assumes nothing.
-use mathlib.Core.Path.{sym, ◌∙◌}
+use mathlib.Core.Path.{sym}
 use lib.ListN.{length}
-use Rattle.lower.specs.Stores.{stores}
+use Rattle.std.proofs.lemmas.Result.{err_from_is_err_and}
+use Rattle.lower.specs.Stores.{stores_of}
 use Rattle.house_write.proofs.Answering.{none_memory, none-wide, write_refused, write_done}
 use Rattle.house_write.proofs.write.Goals as goal
 
-pub returns-then-fault-ne0 : goal.returns-then-fault-ne0
-returns-then-fault-ne0 c =
-    let s = stores c.args.old.now c.args.new.now c.args.ands.now c.args.imuls.now c.args.bmuls.now c.args.zeros.now c.args.dsts.now c.args.rhss.now in
-    write_refused c.args.z s c.args.out.now c.fault_of-fault.result c.fault_of-fault.ensures c.if-fault-ne0.true
+pub returns-in_err-check : goal.returns-in_err-check
+returns-in_err-check c =
+    let p = err_from_is_err_and c.from_residual.result c.from_residual.ensures.1 in
+    rw (p.1, p.2) (write_refused c.args.system.now.sizes (stores_of c.args.system.now) c.args.out.now _ c.in_err-check.ensures)
 
-pub file-length-requires : goal.file-length-requires
-file-length-requires c =
-    let s = stores c.args.old.now c.args.new.now c.args.ands.now c.args.imuls.now c.args.bmuls.now c.args.zeros.now c.args.dsts.now c.args.rhss.now in
-    let e = sym c.fault_of-fault.ensures ∙ c.if-fault-ne0.false in
-    (none_memory c.args.z s (length c.args.out.now) e, none-wide c.args.z s (length c.args.out.now) e)
+pub file-requires : goal.file-requires
+file-requires c =
+    let z = c.args.system.now.sizes in
+    let s = stores_of c.args.system.now in
+    let e = sym c.in_ok-check.ensures in
+    (none_memory z s (length c.args.out.now) e, none-wide z s (length c.args.out.now) e)
 
 pub returns : goal.returns
 returns c =
-    let s = stores c.args.old.now c.args.new.now c.args.ands.now c.args.imuls.now c.args.bmuls.now c.args.zeros.now c.args.dsts.now c.args.rhss.now in
-    write_done c.args.z s c.args.out.now c.fault_of-fault.result c.fault_of-fault.ensures c.if-fault-ne0.false _ _ c.file-length.ensures.0 c.file-length.ensures.1
+    write_done c.args.system.now.sizes (stores_of c.args.system.now) c.args.out.now c.in_ok-check.ensures _ _ c.file.ensures.0 c.file.ensures.1

@@ -1,9 +1,12 @@
--- Slots always, room where there is no refusal. Assumes nothing.
-use Rattle.replay_decision.specs.Replay.{refusal, accepted}
+-- Nothing was refused, or something was. Assumes nothing.
+use Rattle.std.proofs.Common.{sym, ap, ◌∙◌}
+use Rattle.refusal.specs.Refusals.{fault_in}
+use Rattle.lower.proofs.Refusals.{number_some}
+use Rattle.replay_decision.specs.Replay.{accepted, refusal}
 use Rattle.replay_decision.proofs.check_further.Goals as goal
 
-pub returns-then-answer-ne0 : goal.returns-then-answer-ne0
-returns-then-answer-ne0 c = refusal c.if-answer-ne0.true c.check_slots-u.ensures
+pub returns-in-Ok : goal.returns-in-Ok
+returns-in-Ok c = accepted (ap fault_in c.in-Ok.is) c.check_slots-u.ensures c.check_room.ensures
 
-pub returns : goal.returns
-returns c = accepted c.if-answer-ne0.false c.check_slots-u.ensures c.check_room.ensures
+pub returns-in-Err : goal.returns-in-Err
+returns-in-Err c = refusal (λ e. number_some _ (sym (ap fault_in c.in-Err.is) ∙ e)) c.check_slots-u.ensures

@@ -8,4 +8,4 @@ pub returns-then-n-eq0 : goal.returns-then-n-eq0
 returns-then-n-eq0 c = nothing c.if-n-eq0.true
 
 pub returns : goal.returns
-returns c = rooms _ _ _ _ _ _ _ _ (omega arith) c.answers_in-short.ensures c.answers_in-enough.ensures c.check_counted.ensures c.check_counted-2.ensures
+returns c = rooms _ _ _ _ _ _ _ _ (omega arith) c.answers_in-short.ensures c.answers_in-enough.ensures c.with_check.ensures c.with_check-2.ensures

@@ -1,14 +1,15 @@
 -- One call after the other. Assumes nothing.
 use Rattle.std.proofs.Common.{◌≡◌, arith}
 use Rattle.replay_decision.specs.Replay.{none}
-use Rattle.replay_decision.proofs.Calls.{slots_next}
+use Rattle.replay_decision.proofs.Calls.{slots_are, slots_next}
 use Rattle.replay_decision.proofs.check_slots.Goals as goal
 
-pub loop-i-init : goal.loop-i-init
-loop-i-init c = (omega arith, none)
+pub loop-slots-init : goal.loop-slots-init
+loop-slots-init c = none
 
-pub loop-i-preserved : goal.loop-i-preserved
-loop-i-preserved c = (omega arith, slots_next _ _ _ c.loop-i.i _ _ _ _ c.loop-i.invariant.1 c.wrong_slots.ensures c.answers_in.ensures c.check_counted-t.ensures)
+pub loop-slots-preserved : goal.loop-slots-preserved
+loop-slots-preserved c =
+    slots_next _ _ _ c.loop-slots.slots-index _ _ _ _ c.loop-slots.invariant (slots_are c.loop-slots.slots-index c.loop-slots-test.true) c.answers_in.ensures c.with_check-t.ensures
 
 pub returns : goal.returns
-returns c = let e : c.loop-i.i ≡ 7 = omega arith in rw e at c.loop-i.invariant.1
+returns c = let e : c.loop-slots.slots-index ≡ 7 = omega arith in rw e at c.loop-slots.invariant

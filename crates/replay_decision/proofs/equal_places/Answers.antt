@@ -1,16 +1,10 @@
 -- One place after the other. Assumes nothing.
-use Rattle.std.proofs.Common.{◌≡◌, ℕ, arith}
-use Rattle.replay_decision.proofs.Turns.{turns-none, places_next}
+use Rattle.std.proofs.Common.{ℕ, arith}
+use Rattle.replay_decision.proofs.Turns.{turns-none, same_low, places_next}
 use Rattle.replay_decision.proofs.equal_places.Goals as goal
 
 pub loop-i-init : goal.loop-i-init
-loop-i-init c = (omega arith, omega arith, turns-none ℕ _ _)
-
-pub overflow_add-c : goal.overflow_add-c
-overflow_add-c c = omega (arith, c.same-c.ensures.1)
+loop-i-init c = (omega arith, turns-none ℕ _ _)
 
 pub loop-i-preserved : goal.loop-i-preserved
-loop-i-preserved c = (omega arith, omega (arith, c.same-c.ensures.1), places_next c.args.flags.now c.args.met.now c.loop-i.i _ _ _ _ c.byte.ensures.0 c.get.ensures c.loop-i.invariant.2 c.same-c.ensures.0)
-
-pub returns : goal.returns
-returns c = let e : c.loop-i.i ≡ c.args.n = omega arith in rw e at c.loop-i.invariant.2
+loop-i-preserved c = (omega (arith, same_low), places_next c.args.flags.now c.args.met.now c.loop-i.i _ _ _ c.byte.ensures.0 c.get.ensures c.loop-i.invariant.1)

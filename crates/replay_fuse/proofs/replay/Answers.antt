@@ -1,19 +1,19 @@
 -- One vector after the other. Assumes nothing.
-use Rattle.replay_fuse.proofs.Calls.{vector_first, vector_next}
-use Rattle.std.proofs.Common.{arith}
+use Rattle.std.proofs.Common.{◌≡◌, sym, subst, arith, rules}
+use Rattle.replay_fuse.specs.Tallies.{nothing_counted}
+use Rattle.replay_fuse.specs.Replay.{Replayed, begun, next}
 use Rattle.replay_fuse.proofs.replay.Goals as goal
 
 pub loop-at-init : goal.loop-at-init
-loop-at-init c = vector_first _ _ c.nothing-t.ensures
-
-pub told_at-requires : goal.told_at-requires
-told_at-requires c = omega (arith, c.vector_at-v.ensures.at_lt_end)
+loop-at-init c =
+    let e : c.default-t.result ≡ nothing_counted = search rules in
+    subst (Replayed c.args.input.now 4) (sym e) begun
 
 pub loop-at-smaller : goal.loop-at-smaller
 loop-at-smaller c = omega (arith, c.vector_at-v.ensures.at_lt_end)
 
 pub loop-at-preserved : goal.loop-at-preserved
-loop-at-preserved c = vector_next _ c.loop-at.at _ _ _ _ _ _ c.loop-at-test.true c.vector_at-v.ensures.value c.loop-at.invariant c.part.ensures c.told_at.ensures c.part-in-loop-at.ensures c.replay_vector-t.ensures
+loop-at-preserved c = next c.loop-at-test.true c.vector_at-v.ensures.value c.loop-at.invariant c.replay_vector-t.ensures
 
 pub returns : goal.returns
 returns c = record { end = c.loop-at.at; past = omega arith; replayed = c.loop-at.invariant }

@@ -13,7 +13,7 @@ pub loop-at-smaller : goal.loop-at-smaller
 loop-at-smaller c = omega (arith, c.vector_at-v.ensures.at_lt_end)
 
 pub loop-at-preserved : goal.loop-at-preserved
-loop-at-preserved c = vector_next _ c.loop-at.at _ _ _ _ _ _ c.loop-at-test.true c.vector_at-v.ensures.value c.loop-at.invariant c.part.ensures c.told_at.ensures c.part-in-loop-at.ensures c.replay_vector-t.ensures
+loop-at-preserved c = vector_next _ c.loop-at.at _ _ _ _ _ _ _ c.loop-at-test.true c.vector_at-v.ensures.value c.loop-at.invariant c.part.ensures c.told_at.ensures c.part-in-loop-at.ensures c.attempt.ensures c.count-t.ensures
 
 pub returns : goal.returns
 returns c = record { end = c.loop-at.at; past = omega arith; replayed = c.loop-at.invariant }

@@ -1,14 +1,11 @@
--- Each turn of the loop is one step of the fold. Assumes nothing.
-use Rattle.replay_shift.specs.Replay.{apply_edges}
-use Rattle.replay_shift.proofs.Over.{begun, again, ended}
+-- The edges one by one, as the definition has them. Assumes nothing.
+use Rattle.std.proofs.Common.{rules}
+use Rattle.std.proofs.lemmas.Iterator.{YieldsList-from_slice}
+use Rattle.std.proofs.lemmas.Iterator.Consumers.{fold_from_yields_List}
+use Rattle.replay_shift.specs.Replay.{apply_word, apply_edges}
+use Rattle.replay_shift.specs.Tallies.{over}
 use Rattle.replay_shift.proofs.apply_edges.Goals as goal
 
-pub loop-k-init : goal.loop-k-init
-loop-k-init c = begun
-
-pub loop-k-preserved : goal.loop-k-preserved
-loop-k-preserved c = again c.loop-k.invariant c.loop-k-test.true c.apply_word-sum.ensures
-
 pub returns : goal.returns
-unfolding apply_edges
-returns c = ended c.loop-k.invariant c.loop-k-test.false
+unfolding apply_edges over
+returns c = fold_from_yields_List _ (λ h w. apply_word w h) 0 c.fold.result c.fold.ensures.ran (YieldsList-from_slice _ c.iter.ensures.rest) (λ a x b q k. search rules)

@@ -1,4 +1,4 @@
-use Prim.Native.Nat.{◌+◌, ◌-◌, ◌≤◌}
+use Prim.Native.Nat.{◌+◌, ◌≤◌}
 use mathlib.Core.Path.{◌≡◌}
 use mathlib.Core.List.{map}
 use mathlib.Core.Bool.{false, ◌||◌}
@@ -11,13 +11,10 @@ use Rattle.commit_set.specs.Runs.{join, join_all}
 use Rattle.commit_set.proofs.Seeking.{terms_over}
 use Rattle.commit_set.proofs.search.decide.Given as goal
 
-abbrev pub invariant-loop-j : goal.invariant-loop-j
-invariant-loop-j l = (l.j ≤ length l.ts) × (l.over ≡ false)
-    × (some_over l.slots (map (context_of (state_at l.decisions)) (listed l.first l.uses l.first)) (shifts_of (map term_of l.ts)) ≡ (terms_over l.slots (context_of (state_at l.decisions) (use_at l.u)) (drop l.j (shifts_of (map term_of l.ts))) || some_over l.slots (map (context_of (state_at l.decisions)) (listed (next_at l.u) l.uses (next_at l.u))) (shifts_of (map term_of l.ts))))
-    × ((l.many || (terms_over 1 (context_of (state_at l.decisions) (use_at l.u)) (drop l.j (shifts_of (map term_of l.ts))) || some_over 1 (map (context_of (state_at l.decisions)) (listed (next_at l.u) l.uses (next_at l.u))) (shifts_of (map term_of l.ts)))) ≡ some_over 1 (map (context_of (state_at l.decisions)) (listed l.first l.uses l.first)) (shifts_of (map term_of l.ts)))
-
-abbrev pub decreases-loop-j : goal.decreases-loop-j
-decreases-loop-j l = length l.ts - l.j
+abbrev pub invariant-loop-t : goal.invariant-loop-t
+invariant-loop-t l = (l.over ≡ false)
+    × (some_over l.slots (map (context_of (state_at l.decisions)) (listed l.first l.uses l.first)) (shifts_of (map term_of l.ts)) ≡ (terms_over l.slots (context_of (state_at l.decisions) (use_at l.u)) (drop l.t-index (shifts_of (map term_of l.ts))) || some_over l.slots (map (context_of (state_at l.decisions)) (listed (next_at l.u) l.uses (next_at l.u))) (shifts_of (map term_of l.ts))))
+    × ((l.many || (terms_over 1 (context_of (state_at l.decisions) (use_at l.u)) (drop l.t-index (shifts_of (map term_of l.ts))) || some_over 1 (map (context_of (state_at l.decisions)) (listed (next_at l.u) l.uses (next_at l.u))) (shifts_of (map term_of l.ts)))) ≡ some_over 1 (map (context_of (state_at l.decisions)) (listed l.first l.uses l.first)) (shifts_of (map term_of l.ts)))
 
 abbrev pub invariant-out : goal.invariant-out
 invariant-out l = (l.n + l.h ≤ l.first) × (l.over ≡ false)

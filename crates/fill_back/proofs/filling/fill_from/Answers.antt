@@ -1,26 +1,26 @@
 -- The words with the definitions from the last one on are the whole. Assumes nothing.
-use mathlib.Core.Path.{◌≡◌, refl, ◌∙◌}
-use native.Mathlib.Omega.{arith}
-use Rattle.fill_back.specs.Steps.{Held, held}
-use Rattle.fill_back.proofs.Storing.{from_end, from_back, able_at}
+use Rattle.fill_back.specs.Steps.{held_in}
+use Rattle.fill_back.proofs.Storing.{rest_begun, rest_done, rest_turn, fill_turn, able_turn}
+use Rattle.std.specs.Iterator.Adapters.{rev_source}
+use Rattle.std.specs.Slice.Iter.{iter_rest}
+use mathlib.Core.Path.{◌≡◌, ap}
 use Rattle.fill_back.proofs.filling.fill_from.Goals as goal
 
-pub loop-i-init : goal.loop-i-init
-loop-i-init c = (omega (arith, c.requires.left_in_bounds), omega (arith, c.requires.left_in_bounds), refl, from_end (held c.args.old.now c.args.new.now c.args.dsts.now c.args.rhss.now c.args.flags.now) c.args.assignment.now c.args.order.now)
+pub loop-d-init : goal.loop-d-init
+loop-d-init c =
+    let e : iter_rest (rev_source c.into_iter-d-iterator.result) ≡ c.args.order.now = cc (ap rev_source c.into_iter-d-iterator.ensures.into_iter_gives, ap iter_rest c.rev-d-items.ensures.source) in
+    let b = rest_begun (held_in c.args.system.now c.args.flags.now) c.args.assignment.now c.args.order.now _ e in
+    record { rest = b.0; filled = b.1 }
 
 pub fill_one-requires : goal.fill_one-requires
-fill_one-requires c =
-    let h : Held = held c.args.old.now c.args.new.now c.args.dsts.now c.args.rhss.now c.args.flags.now in
-    able_at h c.args.assignment.now c.args.order.now c.args.left c.requires.all c.loop-i.invariant.2 (omega arith) (omega arith)
+fill_one-requires c = able_turn (held_in c.args.system.now c.args.flags.now) c.args.assignment.now c.args.order.now _ _ _ c.loop-d.invariant.rest c.in-Some.ensures.steps c.requires c.loop-d.auto.assignment
 
-pub loop-i-preserved : goal.loop-i-preserved
-loop-i-preserved c =
-    let h : Held = held c.args.old.now c.args.new.now c.args.dsts.now c.args.rhss.now c.args.flags.now in (
-      omega arith,
-      omega arith,
-      c.fill_one.auto.assignment ∙ c.loop-i.invariant.2,
-      from_back h c.args.assignment.now c.args.order.now c.loop-i.i c.loop-i.assignment _ (omega arith) c.loop-i.invariant.1 c.loop-i.invariant.3 c.fill_one.ensures,
-    )
+pub loop-d-preserved : goal.loop-d-preserved
+loop-d-preserved c =
+    let h = held_in c.args.system.now c.args.flags.now in record {
+      rest = rest_turn h c.args.assignment.now c.args.order.now _ _ _ c.loop-d.invariant.rest c.in-Some.ensures.steps;
+      filled = fill_turn h c.args.assignment.now c.args.order.now _ _ _ c.loop-d.invariant.rest c.in-Some.ensures.steps _ _ c.loop-d.invariant.filled c.fill_one.ensures;
+    }
 
 pub returns : goal.returns
-returns c = let e : c.loop-i.i ≡ c.args.left = omega (arith, c.loop-i.invariant.0) in rw e at c.loop-i.invariant.3
+returns c = rest_done (held_in c.args.system.now c.args.flags.now) c.args.assignment.now c.args.order.now _ _ c.in-None.ensures.steps.0 c.loop-d.invariant.filled

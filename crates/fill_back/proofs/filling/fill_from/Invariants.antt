@@ -1,11 +1,13 @@
 use mathlib.Core.Path.{◌≡◌}
-use Prim.Native.Nat.{◌-◌, ◌≤◌}
+use mathlib.Core.List.{◌++◌}
 use lib.ListN.{length, drop}
-use Rattle.fill_back.specs.Steps.{held, fill_from}
+use Rattle.std.specs.Iterator.Adapters.{rev_source}
+use Rattle.std.specs.Slice.Iter.{iter_rest}
+use Rattle.fill_back.specs.Steps.{held_in, fill_from}
 use Rattle.fill_back.proofs.filling.fill_from.Given as goal
 
-abbrev pub invariant-loop-i : goal.invariant-loop-i
-invariant-loop-i l = (l.left ≤ l.i) × (l.i ≤ length l.order) × (length l.assignment ≡ length l.initial.assignment) × (l.assignment ≡ fill_from (held l.old l.new l.dsts l.rhss l.flags) (drop l.i l.order) l.initial.assignment)
-
-abbrev pub decreases-loop-i : goal.decreases-loop-i
-decreases-loop-i l = l.i - l.left
+abbrev pub invariant-loop-d : goal.invariant-loop-d
+invariant-loop-d l = record {
+  rest : l.order ≡ iter_rest (rev_source l.d-iterator) ++ drop (length (iter_rest (rev_source l.d-iterator))) l.order;
+  filled : l.assignment ≡ fill_from (held_in l.system l.flags) (drop (length (iter_rest (rev_source l.d-iterator))) l.order) l.initial.assignment;
+}

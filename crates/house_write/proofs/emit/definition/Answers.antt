@@ -12,14 +12,15 @@ use Rattle.house_write.proofs.emit.definition.Goals as goal
 
 pub head-requires : goal.head-requires
 head-requires c =
-    let n : c.from_number-o.result.len ≡ length_of c.args.h = ap (λ (o : WireOperand). o.len) c.from_number-o.ensures in
+    let n : c.len.result ≡ length_of c.args.h = c.len.ensures ∙ ap (λ (o : WireOperand). o.len) c.from_number-o.ensures in
     omega (arith, n, c.requires)
 
 pub returns : goal.returns
 returns c =
-    let n : c.from_number-o.result.len ≡ length_of c.args.h = ap (λ (o : WireOperand). o.len) c.from_number-o.ensures in
-    let f = operand_of c.args.old.now c.args.new.now c.args.h in
-    let e : 2 + length (operand_bytes f) ≡ 4 + 6 * c.from_number-o.result.len = omega (arith, n, operand_bytes_lem c.args.old.now c.args.new.now c.args.h c.requires.0.stands) in (
+    let s = c.args.stores.now in
+    let n : c.len.result ≡ length_of c.args.h = c.len.ensures ∙ ap (λ (o : WireOperand). o.len) c.from_number-o.ensures in
+    let f = operand_of s.old.now s.new.now c.args.h in
+    let e : 2 + length (operand_bytes f) ≡ 4 + 6 * c.len.result = omega (arith, n, operand_bytes_lem s.old.now s.new.now c.args.h c.requires.0.stands) in (
       omega (arith, c.operand.ensures.0),
       c.operand.ensures.1 ∙ rw (c.put16.ensures, c.head.ensures) (sym (sets_definition (record { dst = c.args.dst; rhs = f }) c.args.out.now c.args.p _ e)),
     )

@@ -2,7 +2,7 @@
 use mathlib.Core.Path.{sym, ◌∙◌}
 use native.Mathlib.Omega.{arith}
 use Rattle.house_file.specs.Format.{entries_of, file_of}
-use Rattle.lower.specs.Stores.{stores, system_of}
+use Rattle.lower.specs.Stores.{stores_of, system_of, system_in}
 use Rattle.lower.proofs.Checks.{memory_wires}
 use Rattle.house_write.specs.Write.{MAX_WRITTEN_TERMS}
 use Rattle.house_write.proofs.Storing.{sets_file, file_ends}
@@ -10,14 +10,13 @@ use Rattle.house_write.proofs.emit.file.Goals as goal
 
 pub put16-requires : goal.put16-requires
 put16-requires c =
-    let s = stores c.args.old.now c.args.new.now c.args.ands.now c.args.imuls.now c.args.bmuls.now c.args.zeros.now c.args.dsts.now c.args.rhss.now in
-    omega (arith, memory_wires MAX_WRITTEN_TERMS c.args.z s c.requires.0)
+    omega (arith, memory_wires MAX_WRITTEN_TERMS c.args.system.now.sizes (stores_of c.args.system.now) c.requires.0)
 
 pub returns : goal.returns
 unfolding file_of system_of
 returns c =
-    let s = stores c.args.old.now c.args.new.now c.args.ands.now c.args.imuls.now c.args.bmuls.now c.args.zeros.now c.args.dsts.now c.args.rhss.now in
-    let es = entries_of (system_of c.args.z s) in (
-      omega (arith, c.lists-p.ensures.0, file_ends c.args.z.wires es),
-      c.head-2.ensures ∙ rw (c.lists-p.ensures.1.1, c.put16.ensures, c.head.ensures) (sym (sets_file c.args.out.now c.args.z.wires _ es c.lists-p.ensures.0)),
+    let wires = c.args.system.now.sizes.wires in
+    let es = entries_of (system_in c.args.system.now) in (
+      omega (arith, c.lists-p.ensures.0, file_ends wires es),
+      c.head-2.ensures ∙ rw (c.lists-p.ensures.1.1, c.put16.ensures, c.head.ensures) (sym (sets_file c.args.out.now wires _ es c.lists-p.ensures.0)),
     )

@@ -8,11 +8,13 @@ use Rattle.house_write.proofs.emit.operand.Goals as goal
 
 pub counted-requires : goal.counted-requires
 counted-requires c =
-    (rw c.operand_terms.ensures c.requires.0.short, omega (arith, ap length c.operand_terms.ensures, terms_length c.args.old.now c.args.new.now c.args.h c.requires.0.stands, c.requires.1))
+    let s = c.args.stores.now in
+    (rw c.terms.ensures c.requires.0.short, omega (arith, ap length c.terms.ensures, terms_length s.old.now s.new.now c.args.h c.requires.0.stands, c.requires.1))
 
 pub returns : goal.returns
 unfolding operand_of
-returns c = (
-  omega (arith, c.counted.ensures.0, ap length c.operand_terms.ensures, terms_length c.args.old.now c.args.new.now c.args.h c.requires.0.stands),
-  c.counted.ensures.1 ∙ rw c.operand_terms.ensures,
-)
+returns c =
+    let s = c.args.stores.now in (
+      omega (arith, c.counted.ensures.0, ap length c.terms.ensures, terms_length s.old.now s.new.now c.args.h c.requires.0.stands),
+      c.counted.ensures.1 ∙ rw c.terms.ensures,
+    )

@@ -4,4 +4,4 @@ use native.Mathlib.Numerals.{add-one}
 use Rattle.house_write.proofs.emit.put16.Goals as goal
 
 pub returns : goal.returns
-returns c = c.put8-2.ensures ∙ rw (c.put8.ensures, add-one)
+returns c = c.put-2.ensures ∙ rw (c.put.ensures, add-one)

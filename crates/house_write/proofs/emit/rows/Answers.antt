@@ -1,49 +1,64 @@
 -- What is left to store, stored from where the walk stands, makes the bytes that are asked for. Assumes nothing.
 use mathlib.Core.Path.{◌≡◌, sym, ap, ◌∙◌, refl}
-use Prim.Native.Nat.{ℕ, ◌+◌}
+use Prim.Native.Nat.{ℕ, ◌+◌, ◌-◌, ◌*◌}
 use native.Mathlib.Omega.{arith}
-use lib.ListN.{length, take, drop}
-use mathlib.Core.List.{map}
+use lib.ListN.{length, take}
+use mathlib.Core.List.{List, map}
 use Rattle.house_file.specs.Format.{row_entry, entry_bytes, list_bytes}
 use Rattle.lower.proofs.Laws.{all_left, all_right}
 use Rattle.lower.specs.Stores.{rows_of}
 use Rattle.operand.specs.Numbers.{operand_of}
-use Rattle.house_write.proofs.Counting.{mul_back, rows_narrow, rows_apart}
+use Rattle.house_write.proofs.Counting.{rows_room, rows_narrow, rows_apart}
 use Rattle.house_write.proofs.Storing.{row_size, sets_rows, rows_size, sets_no_rows, no_rows_size}
-use Rattle.house_write.specs.Sizes.{Ready}
+use Rattle.house_write.specs.Sizes.{Ready, rows_wide}
 use Rattle.house_write.proofs.emit.rows.Goals as goal
 
-pub loop-left-init : goal.loop-left-init
-loop-left-init c = (refl, (refl, (c.requires.all.0, (c.requires.all.1, omega arith))))
+pub split_at-requires : goal.split_at-requires
+split_at-requires c =
+    omega (arith, c.loop.invariant.room, rows_room c.args.k c.args.n c.loop.counter c.loop.rest.now (omega arith))
 
 pub row-q-requires : goal.row-q-requires
 row-q-requires c =
-    let y = all_left (Ready c.args.old.now c.args.new.now) (take c.args.k (drop c.loop-left.a c.args.hs.now)) _ (rw (rows_apart c.args.k c.loop-left.left c.loop-left.a c.args.hs.now c.loop-left-test.true) at c.loop-left.invariant.1.1.0) in
-    let w = rows_narrow c.args.k c.loop-left.left c.loop-left.a c.args.hs.now c.loop-left-test.true c.loop-left.invariant.1.1.1.0 in
-    record { tag_bound = (c.requires.tag_bound.0, (c.requires.tag_bound.1.0, omega (arith, c, c.requires, mul_back c.args.k c.loop-left.left c.loop-left-test.true))); all = (y, w.0) }
+    let a = c.args in
+    let rest = c.loop.rest.now in
+    let s = c.split_at.ensures in
+    let y = all_left (Ready a.stores.now.old.now a.stores.now.new.now) (take a.k rest) _ (rw (rows_apart a.k a.n c.loop.counter rest (omega arith)) at c.loop.invariant.ready) in
+    let w = rows_narrow a.k a.n c.loop.counter rest (omega arith) c.loop.invariant.narrow in
+    record {
+      place = (c.requires.place.0, (omega (arith, s.front_len, c.requires), omega (arith, c.loop.invariant.near, c.requires)));
+      operands_fit = rw s.front (y, w.0);
+    }
 
-pub loop-left-preserved : goal.loop-left-preserved
-loop-left-preserved c =
-    let here = take c.args.k (drop c.loop-left.a c.args.hs.now) in
-    let y = rw (rows_apart c.args.k c.loop-left.left c.loop-left.a c.args.hs.now c.loop-left-test.true) at c.loop-left.invariant.1.1.0 in
-    let w = rows_narrow c.args.k c.loop-left.left c.loop-left.a c.args.hs.now c.loop-left-test.true c.loop-left.invariant.1.1.1.0 in
-    let size = row_size c.args.old.now c.args.new.now c.args.tag here c.requires.tag_bound.0 (all_left (Ready c.args.old.now c.args.new.now) here _ y) in
-    let e : c.loop-left.q + length (entry_bytes (row_entry c.args.tag (map (operand_of c.args.old.now c.args.new.now) here))) ≡ c.row-q.result = omega (arith, c.row-q.ensures.0, size) in (
-      c.loop-left.invariant.0 ∙ sets_rows (operand_of c.args.old.now c.args.new.now) c.args.tag c.args.k c.loop-left.left c.loop-left.a c.args.hs.now c.loop-left-test.true c.loop-left.out c.loop-left.q c.row-q.result e ∙ rw c.row-q.ensures.1,
-      (
-        omega (arith, c, e, rows_size (operand_of c.args.old.now c.args.new.now) c.args.tag c.args.k c.loop-left.left c.loop-left.a c.args.hs.now c.loop-left-test.true),
-        (
-          all_right (Ready c.args.old.now c.args.new.now) here _ y,
-          (w.1, (omega (arith, c, mul_back c.args.k c.loop-left.left c.loop-left-test.true), omega (arith, c, c.row-q.ensures.0, w.0, c.loop-left-test.true, c.row-q.auto))),
-        ),
-      ),
-    )
+pub loop-preserved : goal.loop-preserved
+loop-preserved c =
+    let a = c.args in
+    let old = a.stores.now.old.now in
+    let new = a.stores.now.new.now in
+    let f = operand_of old new in
+    let rest = c.loop.rest.now in
+    let i = c.loop.counter in
+    let s = c.split_at.ensures in
+    let here = take a.k rest in
+    let y = rw (rows_apart a.k a.n i rest (omega arith)) at c.loop.invariant.ready in
+    let w = rows_narrow a.k a.n i rest (omega arith) c.loop.invariant.narrow in
+    let g = rw s.front at c.row-q.ensures in
+    let size = row_size old new a.tag here c.requires.place.0 (all_left (Ready old new) here _ y) in
+    let e : c.loop.q + length (entry_bytes (row_entry a.tag (map f here))) ≡ c.row-q.result = omega (arith, g.0, size) in
+    record {
+      bytes = c.loop.invariant.bytes ∙ sets_rows f a.tag a.k a.n i rest (omega arith) c.loop.out c.loop.q c.row-q.result e ∙ rw (g.1, s.back);
+      place = rw s.back (omega (arith, c.loop.invariant.place, e, rows_size f a.tag a.k a.n i rest (omega arith)));
+      ready = rw s.back (all_right (Ready old new) here _ y);
+      narrow = rw s.back w.1;
+      room = omega (arith, c.loop.invariant.room, s.back_len, rows_room a.k a.n i rest (omega arith));
+      near = omega (arith, c.loop.invariant.near, g.0, w.0);
+    }
 
 pub returns : goal.returns
 returns c =
-    let done : c.loop-left.left ≡ 0 = omega arith in
-    let f = operand_of c.args.old.now c.args.new.now in
-    let hs = drop c.loop-left.a c.args.hs.now in (
-      omega (arith, c, ap (λ (n : ℕ). length (list_bytes (map (row_entry c.args.tag) (rows_of f c.args.k n hs)))) done, no_rows_size f c.args.tag c.args.k hs),
-      (omega (arith, c), sym (c.loop-left.invariant.0 ∙ rw (done, sets_no_rows f c.args.tag c.args.k hs c.loop-left.out c.loop-left.q))),
+    let a = c.args in
+    let done : a.n - c.loop.counter ≡ 0 = omega arith in
+    let f = operand_of a.stores.now.old.now a.stores.now.new.now in
+    let rest = c.loop.rest.now in (
+      omega (arith, c.loop.invariant.place, ap (λ (n : ℕ). length (list_bytes (map (row_entry a.tag) (rows_of f a.k n rest)))) done, no_rows_size f a.tag a.k rest),
+      (omega (arith, c.loop.invariant.near), sym (c.loop.invariant.bytes ∙ rw (done, sets_no_rows f a.tag a.k rest c.loop.out c.loop.q))),
     )

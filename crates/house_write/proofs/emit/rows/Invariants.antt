@@ -1,6 +1,6 @@
 use mathlib.Core.Path.{◌≡◌}
-use Prim.Native.Nat.{◌+◌, ◌*◌, ◌≤◌}
-use lib.ListN.{length, take, drop}
+use Prim.Native.Nat.{◌+◌, ◌-◌, ◌*◌, ◌≤◌}
+use lib.ListN.{length, take}
 use lib.Seq.{sets}
 use mathlib.Core.List.{map}
 use mathlib.Core.Bool.{false}
@@ -11,11 +11,12 @@ use Rattle.operand.specs.Numbers.{operand_of}
 use Rattle.house_write.specs.Sizes.{rows_wide, Ready}
 use Rattle.house_write.proofs.emit.rows.Given as goal
 
-abbrev pub invariant-loop-left : goal.invariant-loop-left
-invariant-loop-left l = (sets l.initial.out l.p (list_bytes (map (row_entry l.tag) (rows_of (operand_of l.old l.new) l.k l.n l.hs))) ≡ sets l.out l.q (list_bytes (map (row_entry l.tag) (rows_of (operand_of l.old l.new) l.k l.left (drop l.a l.hs)))))
-    × ((l.p + length (list_bytes (map (row_entry l.tag) (rows_of (operand_of l.old l.new) l.k l.n l.hs))) ≡ l.q + length (list_bytes (map (row_entry l.tag) (rows_of (operand_of l.old l.new) l.k l.left (drop l.a l.hs)))))
-    × (All (Ready l.old l.new) (take (l.k * l.left) (drop l.a l.hs))
-    × ((rows_wide l.k l.left (drop l.a l.hs) ≡ false) × ((l.a + l.k * l.left ≡ l.k * l.n) × ((l.left ≤ l.n) × ((l.q + 70000 * l.left ≤ l.p + 70000 * l.n) × (length l.out ≡ length l.initial.out)))))))
-
-abbrev pub decreases-loop-left : goal.decreases-loop-left
-decreases-loop-left l = l.left
+abbrev pub invariant-loop : goal.invariant-loop
+invariant-loop l = record {
+  bytes : sets l.initial.out l.p (list_bytes (map (row_entry l.tag) (rows_of (operand_of l.stores.old.now l.stores.new.now) l.k l.n l.hs))) ≡ sets l.out l.q (list_bytes (map (row_entry l.tag) (rows_of (operand_of l.stores.old.now l.stores.new.now) l.k (l.n - l.counter) l.rest)));
+  place : l.p + length (list_bytes (map (row_entry l.tag) (rows_of (operand_of l.stores.old.now l.stores.new.now) l.k l.n l.hs))) ≡ l.q + length (list_bytes (map (row_entry l.tag) (rows_of (operand_of l.stores.old.now l.stores.new.now) l.k (l.n - l.counter) l.rest)));
+  ready : All (Ready l.stores.old.now l.stores.new.now) (take (l.k * (l.n - l.counter)) l.rest);
+  narrow : rows_wide l.k (l.n - l.counter) l.rest ≡ false;
+  room : l.k * (l.n - l.counter) ≤ length l.rest;
+  near : l.q ≤ l.p + 70000 * l.counter;
+}

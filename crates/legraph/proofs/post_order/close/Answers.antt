@@ -7,4 +7,4 @@ pub returns-then-c : goal.returns-then-c
 returns-then-c c = closed_circle (walked c.args.marks.now c.args.order.now c.args.c) c.args.d.0 c.if-c.true
 
 pub returns : goal.returns
-returns c = cc (closed-done (walked c.args.marks.now c.args.order.now c.args.c) c.args.d.0 c.if-c.false, c.put.ensures, c.before-at.ensures)
+returns c = cc (closed-done (walked c.args.marks.now c.args.order.now c.args.c) c.args.d.0 c.if-c.false, c.put.ensures, c.saturating_sub-at.ensures)

@@ -1,46 +1,42 @@
 -- The five lists, the last one first, are all operands. Assumes nothing.
-use mathlib.Core.Path.{◌∙◌}
-use native.Mathlib.Omega.{arith}
+use Rattle.std.proofs.Common.{◌∙◌}
+use Rattle.lower.specs.Stores.{stores_of}
 use Rattle.lower.proofs.Checks.{checked, placed, memory_places}
-use Rattle.lower.specs.Stores.{Stores, stores}
 use Rattle.legraph.specs.Tables.{graph}
 use Rattle.legraph.proofs.Laws.{all_noted, all_there}
 use Rattle.legraph.proofs.uses.build_use_def.Goals as goal
 
-pub harvest_uses-n-requires : goal.harvest_uses-n-requires
-harvest_uses-n-requires c = record { n_in_bounds = (omega arith, c.requires.uses_len_bound); count_in_bounds = (all_there c.args.z _ c.requires.rhss_value).rhss_part }
+pub right_sides-rhss-requires : goal.right_sides-rhss-requires
+right_sides-rhss-requires c = memory_places _ _ _ c.requires.memory_sound
 
-pub harvest_uses-n-requires-2 : goal.harvest_uses-n-requires-2
-harvest_uses-n-requires-2 c = record { n_in_bounds = (omega (arith, c.harvest_uses-n.ensures.1, c.harvest_uses-n.auto.uses), omega (arith, c.harvest_uses-n.auto.uses, c.requires.uses_len_bound)); count_in_bounds = (all_there c.args.z _ c.requires.rhss_value).zeros_part }
+pub zero_operands-zeros-requires : goal.zero_operands-zeros-requires
+zero_operands-zeros-requires c = memory_places _ _ _ c.requires.memory_sound
 
-pub overflow_mul-b : goal.overflow_mul-b
-overflow_mul-b c = omega (arith, (all_there c.args.z _ c.requires.rhss_value).bmuls_part.1)
+pub bmul_operands-bmuls-requires : goal.bmul_operands-bmuls-requires
+bmul_operands-bmuls-requires c = memory_places _ _ _ c.requires.memory_sound
 
-pub harvest_uses-n-requires-3 : goal.harvest_uses-n-requires-3
-harvest_uses-n-requires-3 c =
-    record { n_in_bounds = (omega (arith, c.harvest_uses-n-2.ensures.1, c.harvest_uses-n-2.auto.uses), omega (arith, c.harvest_uses-n-2.auto.uses, c.harvest_uses-n.auto.uses, c.requires.uses_len_bound)); count_in_bounds = (all_there c.args.z _ c.requires.rhss_value).bmuls_part }
+pub imul_operands-imuls-requires : goal.imul_operands-imuls-requires
+imul_operands-imuls-requires c = memory_places _ _ _ c.requires.memory_sound
 
-pub overflow_mul-i : goal.overflow_mul-i
-overflow_mul-i c = omega (arith, (all_there c.args.z _ c.requires.rhss_value).imuls_part.1)
+pub and_operands-ands-requires : goal.and_operands-ands-requires
+and_operands-ands-requires c = memory_places _ _ _ c.requires.memory_sound
 
-pub harvest_uses-n-requires-4 : goal.harvest_uses-n-requires-4
-harvest_uses-n-requires-4 c =
-    record { n_in_bounds = (omega (arith, c.harvest_uses-n-3.ensures.1, c.harvest_uses-n-3.auto.uses), omega (arith, c.harvest_uses-n-3.auto.uses, c.harvest_uses-n-2.auto.uses, c.harvest_uses-n.auto.uses, c.requires.uses_len_bound)); count_in_bounds = (all_there c.args.z _ c.requires.rhss_value).imuls_part }
+pub harvest_uses-n-requires-clause-all_stand : goal.harvest_uses-n-requires-clause-all_stand
+harvest_uses-n-requires-clause-all_stand c = rw c.right_sides-rhss.ensures (all_there _ _ c.requires.memory_sound).rhss_part
 
-pub overflow_mul-a : goal.overflow_mul-a
-overflow_mul-a c = omega (arith, (all_there c.args.z _ c.requires.rhss_value).ands_part.1)
+pub harvest_uses-n-requires-2-clause-all_stand : goal.harvest_uses-n-requires-2-clause-all_stand
+harvest_uses-n-requires-2-clause-all_stand c = rw c.zero_operands-zeros.ensures (all_there _ _ c.requires.memory_sound).zeros_part
 
-pub harvest_uses-requires : goal.harvest_uses-requires
-harvest_uses-requires c =
-    record { n_in_bounds = (omega (arith, c.harvest_uses-n-4.ensures.1, c.harvest_uses-n-4.auto.uses), omega (arith, c.harvest_uses-n-4.auto.uses, c.harvest_uses-n-3.auto.uses, c.harvest_uses-n-2.auto.uses, c.harvest_uses-n.auto.uses, c.requires.uses_len_bound)); count_in_bounds = (all_there c.args.z _ c.requires.rhss_value).ands_part }
+pub harvest_uses-n-requires-3-clause-all_stand : goal.harvest_uses-n-requires-3-clause-all_stand
+harvest_uses-n-requires-3-clause-all_stand c = rw c.bmul_operands-bmuls.ensures (all_there _ _ c.requires.memory_sound).bmuls_part
 
-pub shape_of-first : goal.shape_of-first
-shape_of-first c = c.harvest_uses.auto.first ∙ c.harvest_uses-n-4.auto.first ∙ c.harvest_uses-n-3.auto.first ∙ c.harvest_uses-n-2.auto.first ∙ c.harvest_uses-n.auto.first
+pub harvest_uses-n-requires-4-clause-all_stand : goal.harvest_uses-n-requires-4-clause-all_stand
+harvest_uses-n-requires-4-clause-all_stand c = rw c.imul_operands-imuls.ensures (all_there _ _ c.requires.memory_sound).imuls_part
 
-pub shape_of-uses : goal.shape_of-uses
-shape_of-uses c = c.harvest_uses.auto.uses ∙ c.harvest_uses-n-4.auto.uses ∙ c.harvest_uses-n-3.auto.uses ∙ c.harvest_uses-n-2.auto.uses ∙ c.harvest_uses-n.auto.uses
+pub harvest_uses-requires-clause-all_stand : goal.harvest_uses-requires-clause-all_stand
+harvest_uses-requires-clause-all_stand c = rw c.and_operands-ands.ensures (all_there _ _ c.requires.memory_sound).ands_part
 
 pub returns : goal.returns
-returns c = let st : Stores = stores c.args.old.now c.args.new.now c.args.ands.now c.args.imuls.now c.args.bmuls.now c.args.zeros.now c.args.dsts.now c.args.rhss.now in
-    c.harvest_uses.ensures.0 ∙ rw (c.harvest_uses-n-4.ensures.0, c.harvest_uses-n-3.ensures.0, c.harvest_uses-n-2.ensures.0, c.harvest_uses-n.ensures.0)
-    (all_noted c.args.table.now c.args.z st (graph c.args.first.now c.args.uses.now 0) (placed c.args.z st (checked c.args.z st (memory_places 8192 c.args.z st c.requires.rhss_value))))
+returns c =
+    c.harvest_uses.ensures.0 ∙ rw (c.harvest_uses-n-4.ensures.0, c.harvest_uses-n-3.ensures.0, c.harvest_uses-n-2.ensures.0, c.harvest_uses-n.ensures.0, c.right_sides-rhss.ensures, c.zero_operands-zeros.ensures, c.bmul_operands-bmuls.ensures, c.imul_operands-imuls.ensures, c.and_operands-ands.ensures)
+    (all_noted c.args.table.now c.args.system.now.sizes (stores_of c.args.system.now) (graph c.args.first.now c.args.uses.now 0) (placed _ _ (checked _ _ (memory_places 8192 _ _ c.requires.memory_sound))))

@@ -1,38 +1,23 @@
 -- A wire met before is marked: some wire that is left is marked, or stands twice in what is left. Assumes nothing.
-use Rattle.lower.proofs.Somes.{again_stop, again_go, again_none}
-use Rattle.lower.proofs.Firsts.{part_step, part_end, part_all}
+use Rattle.std.proofs.Common.{arith, ◌≡◌, sym, ◌∙◌, ℕ, ◌<◌, length, false, get_or, length-set}
+use Rattle.std.proofs.lemmas.List.{length-replicate}
+use borrow.Author.Tests.{eq-eqb}
 use Rattle.lower.specs.Tables.{marked}
-use borrow.Author.Tests.{ne_eqb, eq-eqb}
-use lib.ListN.{length, take, get_or, length-set, length-replicate}
-use native.Mathlib.Omega.{arith}
-use Prim.Native.Nat.{ℕ, ◌<◌}
-use mathlib.Core.Bool.{true, false}
-use mathlib.Core.Path.{◌≡◌, sym, ◌∙◌}
+use Rattle.lower.proofs.Somes.{again_go, again_none}
+use Rattle.lower.proofs.Firsts.{drop_step, all_at}
 use Rattle.lower.proofs.definitions.is_twice.Goals as goal
 
-pub loop-i-init : goal.loop-i-init
-loop-i-init c = (omega arith, length-replicate {A = ℕ} 4096 0, sym (again_none 4096 (take c.args.n c.args.dsts.now)))
-
-pub overflow_cast-d : goal.overflow_cast-d
-overflow_cast-d c = omega (arith, c.shared_slice_known-1.given c.loop-i.i)
+pub loop-d-init : goal.loop-d-init
+loop-d-init c = (length-replicate {A = ℕ} 4096 0, sym (again_none 4096 c.args.dsts.now))
 
 pub bounds-met-d : goal.bounds-met-d
-bounds-met-d c = part_all c.args.dsts.now c.args.n c.loop-i.i 0 c.requires.1 c.loop-i-test.true c.requires.0
+bounds-met-d c = all_at c.args.dsts.now _ 0 c.requires c.loop-d-test.true
 
-pub returns-then-met-d-ne0 : goal.returns-then-met-d-ne0
-returns-then-met-d-ne0 c = let d = get_or c.args.dsts.now c.loop-i.i 0 in
-    let m : marked c.loop-i.met d ≡ true = rw (ne_eqb _ _ c.if-met-d-ne0.true) in
-    sym (c.loop-i.invariant.2 ∙ again_stop c.loop-i.met (take c.args.n c.args.dsts.now) c.loop-i.i d (part_step c.args.dsts.now c.args.n c.loop-i.i 0 c.loop-i-test.true c.requires.0) m)
+pub bounds-met-d-in-loop-d : goal.bounds-met-d-in-loop-d
+bounds-met-d-in-loop-d c = all_at c.args.dsts.now _ 0 c.requires c.loop-d-test.true
 
-pub bounds-met-d-in-loop-i : goal.bounds-met-d-in-loop-i
-bounds-met-d-in-loop-i c = part_all c.args.dsts.now c.args.n c.loop-i.i 0 c.requires.1 c.loop-i-test.true c.requires.0
-
-pub loop-i-preserved : goal.loop-i-preserved
-loop-i-preserved c = let d = get_or c.args.dsts.now c.loop-i.i 0 in
-    let small : d < 4096 = part_all c.args.dsts.now c.args.n c.loop-i.i 0 c.requires.1 c.loop-i-test.true c.requires.0 in
-    let inside : d < length c.loop-i.met = omega (arith, small, c.loop-i.invariant.1) in
-    let m : marked c.loop-i.met d ≡ false = rw (eq-eqb _ _ c.if-met-d-ne0.false) in
-    (omega arith, length-set c.loop-i.met d 1 ∙ c.loop-i.invariant.1, c.loop-i.invariant.2 ∙ again_go c.loop-i.met (take c.args.n c.args.dsts.now) c.loop-i.i d (part_step c.args.dsts.now c.args.n c.loop-i.i 0 c.loop-i-test.true c.requires.0) inside m)
-
-pub returns : goal.returns
-returns c = sym (c.loop-i.invariant.2 ∙ rw (part_end c.args.dsts.now c.args.n c.loop-i.i c.requires.0 c.loop-i-test.false))
+pub loop-d-preserved : goal.loop-d-preserved
+loop-d-preserved c = let d = get_or c.args.dsts.now c.loop-d.d-index 0 in
+    let inside : d < length c.loop-d.met = omega (arith, all_at c.args.dsts.now c.loop-d.d-index 0 c.requires c.loop-d-test.true, c.loop-d.invariant.0) in
+    let m : marked c.loop-d.met d ≡ false = rw (eq-eqb _ _ c.if-met-d-ne0.false) in
+    (length-set c.loop-d.met d 1 ∙ c.loop-d.invariant.0, c.loop-d.invariant.1 ∙ again_go c.loop-d.met c.args.dsts.now c.loop-d.d-index d (drop_step c.args.dsts.now c.loop-d.d-index 0 c.loop-d-test.true) inside m)

@@ -1,12 +1,13 @@
--- By its terms. Assumes nothing.
-use Rattle.lower.specs.Tables.{double_in, handle_double}
-use Rattle.lower.specs.Lists.{some_of}
+-- Its terms are a part of a store. Assumes nothing.
+use Rattle.std.proofs.Common.{sym, ap, ◌∙◌, map}
 use Rattle.operand.specs.Numbers.{operand_of, term_of}
-use mathlib.Core.List.{map}
-use mathlib.Core.Path.{ap, ◌∙◌}
+use Rattle.lower.specs.Lists.{some_of}
+use Rattle.lower.specs.Tables.{double_in, handle_double}
+use Rattle.lower.proofs.Somes.{some-map}
 use Rattle.lower.proofs.definitions.operand_double.Goals as goal
 
-pub returns : goal.returns
+pub loop-t-init : goal.loop-t-init
 unfolding handle_double operand_of
-returns c =
-    c.terms_double.ensures ∙ ap (λ l. some_of (double_in c.args.defined.now c.args.definition) (map term_of l)) c.operand_terms.ensures
+loop-t-init c =
+    ap (λ l. some_of (double_in c.args.defined.now c.args.definition) (map term_of l)) (sym c.terms-t-items.ensures)
+    ∙ some-map (double_in c.args.defined.now c.args.definition) term_of c.terms-t-items.result.now

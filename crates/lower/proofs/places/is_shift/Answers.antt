@@ -1,10 +1,15 @@
 -- By what from_index answers. Assumes nothing.
-use Rattle.lower.proofs.Shifts.{found_yes, found_no}
-use mathlib.Core.Path.{sym, ◌∙◌}
+use Rattle.std.proofs.Common.{◌≡◌, refl, ap, ◌∙◌, Bool, true, false, cond, Result, Ok, Err}
+use Rattle.std.specs.Result.{is_ok}
+use Rattle.refusal.specs.declared.Refusal.{Refusal}
+use Rattle.refusal.specs.declared.Refusal.TheVariants as R
+use Rattle.shift.specs.declared.Shift.{Shift}
+use Rattle.shift.specs.Shifts.{valid_number, shift_at}
 use Rattle.lower.proofs.places.is_shift.Goals as goal
 
-pub returns-in-Valid : goal.returns-in-Valid
-returns-in-Valid c = sym (found_yes c.args.n _ (sym c.from_index-found.ensures.0 ∙ c.in-Valid.is))
-
-pub returns-in-Refused : goal.returns-in-Refused
-returns-in-Refused c = sym (found_no c.args.n (sym c.from_index-found.ensures.0 ∙ c.in-Refused.is))
+pub returns : goal.returns
+returns c = c.is_ok.ensures.value ∙ ap is_ok c.from_index.ensures.0 ∙ go (valid_number c.args.n) (shift_at c.args.n)
+  where
+    go : (b : Bool) (s : Shift) → is_ok (cond {A = Result Shift Refusal} b (Ok s) (Err R.Shift)) ≡ b
+    go true s = refl
+    go false s = refl

@@ -1,38 +1,53 @@
 -- The rows that are left are all rows. Assumes nothing.
-use Rattle.patch.proofs.Builds.{rows_end, rows_room, rows_first, rows_rest, rows_step}
-use Rattle.patch.specs.Building.{Built, built_by, build_all, Rooted, rows_in_lem}
-use Rattle.patch.specs.Spelling.{Source, source, spell}
+use Rattle.patch.proofs.Builds.{rows_end, rows_step}
+use Rattle.patch.specs.Building.{Built, built_by, build_all, Rooted, rows_in}
+use Rattle.patch.specs.Spelling.{Source, source_of, spell}
 use Rattle.patch.specs.Steps.{Written}
 use Rattle.operand.specs.Numbers.{Term}
-use lib.ListN.{drop}
+use Rattle.lower.specs.Lists.{All}
+use Rattle.lower.proofs.Laws.{all_left, all_right}
+use Rattle.std.specs.Slice.Iter.{chunks_exact_rest, chunks_exact_size}
+use lib.ListN.{length}
 use native.Mathlib.Omega.{arith}
-use Prim.Native.Nat.{◌+◌, ◌-◌}
-use mathlib.Core.Path.{refl, sym, ap, ◌∙◌}
+use Prim.Native.Nat.{ℕ, ◌/◌}
+use mathlib.Core.List.{List}
+use mathlib.Core.Path.{◌≡◌, sym, ap, ◌∙◌, subst}
 use Rattle.patch.proofs.build.build_rows.Goals as goal
 
-pub loop-left-init : goal.loop-left-init
-loop-left-init c = (refl, c.requires.rows_there.1.0, omega (arith, c.requires.rows_there.0.0), c.requires.rows_there.0.1, refl, refl)
+pub loop-row-init : goal.loop-row-init
+loop-row-init c =
+    let q : Source = source_of c.args.source.now in
+    let i = c.into_iter-row-iterator.ensures.into_iter_gives in
+    let all : chunks_exact_rest c.into_iter-row-iterator.result ≡ c.args.rows.now = ap chunks_exact_rest i ∙ c.chunks_exact-row-items.ensures.rest in
+    record {
+      sized = ap chunks_exact_size i ∙ c.chunks_exact-row-items.ensures.size;
+      rooted = subst (All (Rooted c.args.source.now.stores.old.now c.args.source.now.stores.new.now)) (sym all) c.requires.rooted.0;
+      room = c.requires.rooted.1.0;
+      left = ap (λ (l : List ℕ). build_all (spell q c.args.below) (rows_in q c.args.width (length l / c.args.width) l) (built_by c.args.out.now c.args.list.now c.args.progress)) all;
+    }
 
-pub overflow_add-end : goal.overflow_add-end
-overflow_add-end c = omega (arith, rows_room c.args.k c.loop-left.left c.loop-left.i c.args.hs.now c.loop-left-test.true c.loop-left.invariant.2)
+pub build_root_patch-cur-requires-clause-rooted : goal.build_root_patch-cur-requires-clause-rooted
+build_root_patch-cur-requires-clause-rooted c =
+    let P : ℕ → Type 0 = Rooted c.args.source.now.stores.old.now c.args.source.now.stores.new.now in
+    (all_left P _ _ (subst (All P) c.in-Some.ensures.steps.1.0 c.loop-row.invariant.rooted), (omega (arith, c.loop-row.invariant.room, c.loop-row.auto.out), omega (arith, c.loop-row.auto.out, c.requires.rooted.1.1)))
 
-pub slice_bounds-build_root_patch-end : goal.slice_bounds-build_root_patch-end
-slice_bounds-build_root_patch-end c = omega (arith, rows_room c.args.k c.loop-left.left c.loop-left.i c.args.hs.now c.loop-left-test.true c.loop-left.invariant.2)
-
-pub build_root_patch-cur-requires : goal.build_root_patch-cur-requires
-build_root_patch-cur-requires c =
-    record { ready = c.requires.ready; all = (rows_first c.args.k c.loop-left.left c.loop-left.i c.args.hs.now c.loop-left-test.true (Rooted c.args.old.now c.args.new.now) c.loop-left.invariant.3, (omega (arith, c.loop-left.invariant.0, c.loop-left.invariant.1), omega (arith, c.loop-left.invariant.0, c.requires.rows_there.1.1))) }
-
-pub loop-left-preserved : goal.loop-left-preserved
-loop-left-preserved c = let q : Source = source c.args.old.now c.args.new.now c.args.rhss.now c.args.table.now c.args.decisions.now c.args.alive.now in let go : Term → Written → Written = spell q c.args.below in let y : Built = built_by c.loop-left.out c.loop-left.list c.loop-left.cur in (
-  omega arith,
-  omega (arith, c.build_root_patch-cur.ensures.1, c.loop-left.invariant.0),
-  rows_room c.args.k c.loop-left.left c.loop-left.i c.args.hs.now c.loop-left-test.true c.loop-left.invariant.2,
-  rows_rest c.args.k c.loop-left.left c.loop-left.i c.args.hs.now c.loop-left-test.true (Rooted c.args.old.now c.args.new.now) c.loop-left.invariant.3,
-  ap (build_all go (rows_in_lem q c.args.k (c.loop-left.left - 1) (drop (c.loop-left.i + c.args.k) c.args.hs.now))) c.build_root_patch-cur.ensures.0 ∙ sym (rows_step c.args.k c.loop-left.left c.loop-left.i c.args.hs.now c.loop-left-test.true go q y) ∙ c.loop-left.invariant.4,
-  omega arith,
-)
+pub loop-row-preserved : goal.loop-row-preserved
+loop-row-preserved c =
+    let q : Source = source_of c.args.source.now in
+    let go : Term → Written → Written = spell q c.args.below in
+    let y : Built = built_by c.loop-row.out c.loop-row.list c.loop-row.cur in
+    let P : ℕ → Type 0 = Rooted c.args.source.now.stores.old.now c.args.source.now.stores.new.now in
+    let e = c.in-Some.ensures.steps in
+    record {
+      sized = e.0 ∙ c.loop-row.invariant.sized;
+      rooted = all_right P _ _ (subst (All P) e.1.0 c.loop-row.invariant.rooted);
+      room = omega (arith, c.build_root_patch-cur.ensures.1, c.loop-row.auto.out);
+      left = ap (build_all go (rows_in q c.args.width (length (chunks_exact_rest c.next.new.self) / c.args.width) (chunks_exact_rest c.next.new.self))) c.build_root_patch-cur.ensures.0
+          ∙ sym (rows_step go q c.args.width c.requires.wide y _ c.in-Some.row.now _ e.1.0 (e.1.1 ∙ c.loop-row.invariant.sized)) ∙ c.loop-row.invariant.left;
+    }
 
 pub returns : goal.returns
-returns c = let q : Source = source c.args.old.now c.args.new.now c.args.rhss.now c.args.table.now c.args.decisions.now c.args.alive.now in let go : Term → Written → Written = spell q c.args.below in let y : Built = built_by c.loop-left.out c.loop-left.list c.loop-left.cur in
-    (sym (rows_end go q c.args.k c.loop-left.left c.loop-left.i c.args.hs.now y c.loop-left-test.false) ∙ c.loop-left.invariant.4, c.loop-left.invariant.1)
+returns c =
+    let q : Source = source_of c.args.source.now in
+    let y : Built = built_by c.loop-row.out c.loop-row.list c.loop-row.cur in
+    (sym (rows_end (spell q c.args.below) q c.args.width c.requires.wide y (chunks_exact_rest c.loop-row.row-iterator) (omega (arith, c.in-None.ensures.steps.1.0, c.loop-row.invariant.sized))) ∙ c.loop-row.invariant.left, c.loop-row.invariant.room)

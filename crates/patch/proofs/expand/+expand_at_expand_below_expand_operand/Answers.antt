@@ -33,24 +33,24 @@ expand_at-expand_operand-requires t c =
 pub expand_at-returns : goal.expand_at-returns
 expand_at-returns t c = c.expand_operand.ensures
 
-pub expand_below-fold-f-requires : goal.expand_below-fold-f-requires
-expand_below-fold-f-requires t c =
+pub expand_below-fold-requires : goal.expand_below-fold-requires
+expand_below-fold-requires t c =
     let h = c.requires.enterable in
     (c.requires.over.0, entered_valid (reading h.rest c.args.alive.now) h.number c.args.e c.args.mask c.args.below h.entered c.inner-s.result c.inner-s.ensures)
 
 pub expand_below-returns-in_default : goal.expand_below-returns-in_default
 expand_below-returns-in_default t c =
-    (λ q u h. entered_nothing (reading q c.args.alive.now) u c.args.e c.args.mask c.args.below h c.inner-s.result c.inner-s.ensures c.args.over c.requires.over.0 c.requires.sees c.fold-f.result c.fold-f.ensures c.in_default.is (spelt_to c.args.out.now c.args.n), c.requires.over.1)
+    (λ q u h. entered_nothing (reading q c.args.alive.now) u c.args.e c.args.mask c.args.below h c.inner-s.result c.inner-s.ensures c.args.over c.requires.over.0 c.requires.sees c.fold.result c.fold.ensures c.in_default.is (spelt_to c.args.out.now c.args.n), c.requires.over.1)
 
 pub expand_below-overflow_add-x : goal.expand_below-overflow_add-x
 expand_below-overflow_add-x t c =
     let h = c.requires.enterable in
-    omega (arith, over-low c.in-Under.x (entered_over (reading h.rest c.args.alive.now) h.number c.args.e c.args.mask c.args.below h.entered c.inner-s.result c.inner-s.ensures c.args.over c.requires.over.0 c.requires.sees c.fold-f.result c.fold-f.ensures c.in-Under.x c.in-Under.is), c.wire-wire.ensures)
+    omega (arith, over-low c.in-Some.x (entered_over (reading h.rest c.args.alive.now) h.number c.args.e c.args.mask c.args.below h.entered c.inner-s.result c.inner-s.ensures c.args.over c.requires.over.0 c.requires.sees c.fold.result c.fold.ensures c.in-Some.x c.in-Some.is), c.wire-wire.ensures)
 
 pub expand_below-returns-then-e-lt4294967296 : goal.expand_below-returns-then-e-lt4294967296
 expand_below-returns-then-e-lt4294967296 t c = (
   λ q u h. c.put_below.ensures.0
-      ∙ entered_stands (reading q c.args.alive.now) u c.args.e c.args.mask c.args.below h c.inner-s.result c.inner-s.ensures c.args.over c.requires.over.0 c.requires.sees c.fold-f.result c.fold-f.ensures c.in-Under.x c.in-Under.is c.wire-wire.result.0 c.wire-wire.ensures c.if-e-lt4294967296.true (spelt_to c.args.out.now c.args.n),
+      ∙ entered_stands (reading q c.args.alive.now) u c.args.e c.args.mask c.args.below h c.inner-s.result c.inner-s.ensures c.args.over c.requires.over.0 c.requires.sees c.fold.result c.fold.ensures c.in-Some.x c.in-Some.is c.wire-wire.result.0 c.wire-wire.ensures c.if-e-lt4294967296.true (spelt_to c.args.out.now c.args.n),
   c.put_below.ensures.1,
 )
 
@@ -69,10 +69,10 @@ expand_below-expand_at-requires t c =
           entered_valid q h.number c.args.e c.args.mask c.args.below h.entered c.inner-s.result c.inner-s.ensures,
           (
             (
-              entered_over q h.number c.args.e c.args.mask c.args.below h.entered c.inner-s.result c.inner-s.ensures c.args.over c.requires.over.0 c.requires.sees c.fold-f.result c.fold-f.ensures c.in-Under.x c.in-Under.is,
+              entered_over q h.number c.args.e c.args.mask c.args.below h.entered c.inner-s.result c.inner-s.ensures c.args.over c.requires.over.0 c.requires.sees c.fold.result c.fold.ensures c.in-Some.x c.in-Some.is,
               c.requires.over.1,
             ),
-            entered_sees q h.number c.args.e c.args.mask c.args.below h.entered c.inner-s.result c.inner-s.ensures c.args.over c.requires.over.0 c.requires.sees c.fold-f.result c.fold-f.ensures c.in-Under.x c.in-Under.is,
+            entered_sees q h.number c.args.e c.args.mask c.args.below h.entered c.inner-s.result c.inner-s.ensures c.args.over c.requires.over.0 c.requires.sees c.fold.result c.fold.ensures c.in-Some.x c.in-Some.is,
           ),
         ),
       ),
@@ -82,7 +82,7 @@ pub expand_below-returns : goal.expand_below-returns
 expand_below-returns t c =
     let w : ℕ = c.wire-wire.result.0 in (
       λ q u h. c.expand_at.ensures.0 q (entered_opens (reading q c.args.alive.now) u c.args.e c.args.mask c.args.below h w c.wire-wire.ensures c.if-e-lt4294967296.false)
-          ∙ entered_goes (reading q c.args.alive.now) u c.args.e c.args.mask c.args.below h c.inner-s.result c.inner-s.ensures c.args.over c.requires.over.0 c.requires.sees c.fold-f.result c.fold-f.ensures c.in-Under.x c.in-Under.is w c.wire-wire.ensures c.if-e-lt4294967296.false (omega (arith, c.type_inv.alive w)) (spelt_to c.args.out.now c.args.n),
+          ∙ entered_goes (reading q c.args.alive.now) u c.args.e c.args.mask c.args.below h c.inner-s.result c.inner-s.ensures c.args.over c.requires.over.0 c.requires.sees c.fold.result c.fold.ensures c.in-Some.x c.in-Some.is w c.wire-wire.ensures c.if-e-lt4294967296.false (omega (arith, c.type_inv.alive w)) (spelt_to c.args.out.now c.args.n),
       c.expand_at.ensures.1,
     )
 

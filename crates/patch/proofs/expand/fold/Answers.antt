@@ -1,7 +1,7 @@
 -- Where two of the shifts are identities the third is what is left. Assumes nothing.
 use Rattle.patch.proofs.Folds.{over-plus, over-low, fold_lone, fold_kept, lone-none, lone-some}
 use Rattle.patch.specs.Spelling.{inner_of, outer_of, folded_as}
-use Rattle.patch.specs.declared.Folded.TheVariants.{Under}
+use Rattle.std.specs.Prelude.{Some}
 use Rattle.operand.specs.Push.{push_valid}
 use Rattle.operand.specs.Numbers.{Term, term_of}
 use Rattle.shift.proofs.Numbers.{valid-low}
@@ -30,7 +30,7 @@ pub returns-then-s-eq0-2 : goal.returns-then-s-eq0-2
 returns-then-s-eq0-2 c =
     let o : (term_of c.args.over).outer % 64 ≡ 0 = omega (arith, c.outer-o.ensures, c.if-o-eq0.true) in
     let i : (term_of c.args.over).inner % 64 ≡ 0 → ⊥ = λ z. c.if-i-eq0.false (omega (arith, c.inner-i.ensures, z)) in
-    ap (λ (x : ℕ). Under (65536 * x)) c.inner-i.ensures ∙ lone-some (term_of c.args.over).inner c.requires.0.1.0 i ∙ sym (ap folded_as (fold_kept (inner_of c.args.over) (outer_of c.args.over) (shift_at c.args.s) o c.if-s-eq0-2.true))
+    ap (λ (x : ℕ). Some (65536 * x)) c.inner-i.ensures ∙ lone-some (term_of c.args.over).inner c.requires.0.1.0 i ∙ sym (ap folded_as (fold_kept (inner_of c.args.over) (outer_of c.args.over) (shift_at c.args.s) o c.if-s-eq0-2.true))
 
 pub overflow_add-over : goal.overflow_add-over
 overflow_add-over c = omega (arith, over-low c.args.over c.requires.0, valid-low c.args.s c.requires.1)

@@ -2,10 +2,13 @@
 use Rattle.shift.specs.declared.Shift.{Shift}
 use Rattle.patch.proofs.Spells.{number-low}
 use Rattle.commit_set.proofs.Valids.{fold_valid}
-use Rattle.patch.specs.declared.Folded.TheVariants.{Under}
+use Rattle.std.specs.Prelude.{Some, None, ◌⊎◌}
+use Rattle.std.proofs.Common.{inl, inr}
+use Rattle.operand.specs.declared.PushInner.{PushInner}
+use Rattle.operand.specs.declared.PushInner.TheVariants.{Zero, OverBudget}
 use Rattle.patch.specs.Spelling.{folded_as}
 use Prim.Native.Nat.{ℕ, ◌+◌, ◌*◌}
-use mathlib.Core.Path.{ap, ap₂, sym, ◌∙◌}
+use mathlib.Core.Path.{◌≡◌, ap, ap₂, sym, ◌∙◌}
 use native.Mathlib.Omega.{arith}
 use Rattle.patch.proofs.expand.fold_shifts.Goals as goal
 
@@ -25,10 +28,11 @@ pub overflow_add-result : goal.overflow_add-result
 overflow_add-result c = let i : Shift = c.in-Seq.i in let o : Shift = c.in-Seq.o in let v = fold_valid c.args.inner c.args.outer c.args.s i o c.requires.0 c.requires.1 c.requires.2 (sym c.push_inner.ensures ∙ c.in-Seq.is) in omega (arith, c.index-in-Seq.ensures, c.index.ensures, number-low i v.0, number-low o v.1)
 
 pub returns-in-Seq : goal.returns-in-Seq
-returns-in-Seq c = ap₂ (λ (a b : ℕ). Under (65536 * a + 4294967296 * b)) c.index.ensures c.index-in-Seq.ensures ∙ sym (ap folded_as (sym c.push_inner.ensures ∙ c.in-Seq.is))
+returns-in-Seq c = ap₂ (λ (a b : ℕ). Some (65536 * a + 4294967296 * b)) c.index.ensures c.index-in-Seq.ensures ∙ sym (ap folded_as (sym c.push_inner.ensures ∙ c.in-Seq.is))
+
+nothing_left : (x : PushInner) → (x ≡ Zero) ⊎ (x ≡ OverBudget) → folded_as x ≡ None
+nothing_left x (inl e) = ap folded_as e
+nothing_left x (inr e) = ap folded_as e
 
 pub returns-in-Zero : goal.returns-in-Zero
-returns-in-Zero c = sym (ap folded_as (sym c.push_inner.ensures ∙ c.in-Zero.is))
-
-pub returns-in-OverBudget : goal.returns-in-OverBudget
-returns-in-OverBudget c = sym (ap folded_as (sym c.push_inner.ensures ∙ c.in-OverBudget.is))
+returns-in-Zero c = sym (ap folded_as (sym c.push_inner.ensures) ∙ nothing_left c.push_inner.result c.in-Zero.is)

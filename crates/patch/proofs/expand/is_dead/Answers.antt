@@ -5,5 +5,5 @@ use Prim.Native.Nat.{ℕ}
 use mathlib.Core.Path.{ap}
 use Rattle.patch.proofs.expand.is_dead.Goals as goal
 
-pub returns : goal.returns
-returns c = ap (λ (x : ℕ). eqb (bit_and x c.args.mask) 0) c.mask_of.ensures
+pub returns-clause-dead : goal.returns-clause-dead
+returns-clause-dead c = ap (λ (x : ℕ). eqb (bit_and x c.args.mask) 0) c.mask_of.ensures

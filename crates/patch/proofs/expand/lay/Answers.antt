@@ -16,7 +16,7 @@ use Rattle.patch.proofs.expand.lay.Goals as goal
 
 pub returns-in_default : goal.returns-in_default
 returns-in_default c =
-    let q : inlined_number c.args.decisions.now (get_or c.args.table.now (term_of c.args.t).wire 0) ≡ 0 = subst (λ (w : ℕ). inlined_number c.args.decisions.now (get_or c.args.table.now w 0) ≡ 0) c.wire-wire.ensures (sym c.inlined-node.ensures ∙ ap told_node c.in_default.is) in
+    let q : inlined_number c.args.decisions.now (get_or c.args.table.now (term_of c.args.t).wire 0) ≡ 0 = subst (λ (w : ℕ). inlined_number c.args.decisions.now (get_or c.args.table.now w 0) ≡ 0) c.wire-wire.ensures (sym c.inlined-node.ensures.node ∙ ap told_node c.in_default.is) in
     let e : 65536 * c.inner-s.result + c.wire-wire.result.0 ≡ term_number (record { wire = (term_of c.args.t).wire; inner = (term_of c.args.t).inner; outer = 0 }) = omega (arith, c.wire-wire.ensures, c.inner-s.ensures) in
     ap₂ (λ (x y : ℕ). set (set c.args.alive.now c.args.at x) c.args.to y)
     (look_none c.args.table.now c.args.decisions.now c.args.alive.now (term_of c.args.t) q)
@@ -30,7 +30,7 @@ apply-m-requires c = c.from_index.ensures.1
 
 pub returns : goal.returns
 returns c = let d : ℕ = c.in-LinDef.d.0 in
-    let q : inlined_number c.args.decisions.now (get_or c.args.table.now (term_of c.args.t).wire 0) ≡ suc d = subst (λ (w : ℕ). inlined_number c.args.decisions.now (get_or c.args.table.now w 0) ≡ suc d) c.wire-wire.ensures (sym c.inlined-node.ensures ∙ ap told_node c.in-LinDef.is) in
+    let q : inlined_number c.args.decisions.now (get_or c.args.table.now (term_of c.args.t).wire 0) ≡ suc d = subst (λ (w : ℕ). inlined_number c.args.decisions.now (get_or c.args.table.now w 0) ≡ suc d) c.wire-wire.ensures (sym c.inlined-node.ensures.node ∙ ap told_node c.in-LinDef.is) in
     let e : 4294967296 + 65536 * c.inner-s.result + d ≡ term_number (record { wire = d; inner = (term_of c.args.t).inner; outer = 1 }) = omega (arith, c.inner-s.ensures) in
     ap₂ (λ (x y : ℕ). set (set c.args.alive.now c.args.at x) c.args.to y)
     (c.apply-m.ensures ∙ ap₂ (λ (x : Shift) (y : ℕ). apply_of x y) (c.from_index.ensures.0 ∙ ap shift_at c.inner-s.ensures) c.mask_of.ensures

@@ -7,10 +7,10 @@ use Rattle.patch.proofs.expand.look_operand.Goals as goal
 
 pub look_terms-requires : goal.look_terms-requires
 look_terms-requires c =
-    let k = ap length c.operand_terms-ts.ensures ∙ terms_length c.args.old.now c.args.new.now c.args.h c.requires.stands in
-    record { le_at = (c.requires.le_at.0, omega (arith, k, c.requires.le_at.1)); all = terms_valid c.args.old.now c.args.new.now c.args.h c.requires.stands c.operand_terms-ts.result.now c.operand_terms-ts.ensures c.requires.all; by_index = c.requires.by_index }
+    let k = ap length c.terms-ts.ensures ∙ terms_length c.args.stores.now.old.now c.args.stores.now.new.now c.args.h c.requires.stands in
+    record { room = (c.requires.room.0, omega (arith, k, c.requires.room.1)); shifts_there = terms_valid c.args.stores.now.old.now c.args.stores.now.new.now c.args.h c.requires.stands c.terms-ts.result.now c.terms-ts.ensures c.requires.shifts_there; nodes = c.requires.nodes }
 
 pub returns : goal.returns
 returns c =
-    let k = ap length c.operand_terms-ts.ensures ∙ terms_length c.args.old.now c.args.new.now c.args.h c.requires.stands in
-    (k, entries_by c.args.table.now c.args.decisions.now c.args.alive.now _ c.operand_terms-ts.result.now _ c.args.at _ c.operand_terms-ts.ensures k c.look_terms.ensures)
+    let k = ap length c.terms-ts.ensures ∙ terms_length c.args.stores.now.old.now c.args.stores.now.new.now c.args.h c.requires.stands in
+    (k, entries_by c.args.table.now c.args.decisions.now c.args.alive.now _ c.terms-ts.result.now _ c.args.at _ c.terms-ts.ensures k c.look_terms.ensures)

@@ -13,26 +13,26 @@ use mathlib.Core.Path.{◌≡◌, sym, subst}
 use Rattle.patch.proofs.expand.look_terms.Goals as goal
 
 pub overflow_add-to : goal.overflow_add-to
-overflow_add-to c = omega (arith, c.requires.le_at.1)
+overflow_add-to c = omega (arith, c.requires.room.1)
 
 pub loop-i-init : goal.loop-i-init
-loop-i-init c = (omega arith, entries_none c.args.table.now c.args.decisions.now c.args.alive.now c.args.ts.now c.args.at c.requires.by_index c.requires.le_at.0 (length c.args.ts.now))
+loop-i-init c = (omega arith, entries_none c.args.table.now c.args.decisions.now c.args.alive.now c.args.ts.now c.args.at c.requires.nodes c.requires.room.0 (length c.args.ts.now))
 
 pub overflow_add-at : goal.overflow_add-at
-overflow_add-at c = omega (arith, c.requires.le_at.1, c.loop-i-test.true)
+overflow_add-at c = omega (arith, c.requires.room.1, c.loop-i-test.true)
 
 pub overflow_add-to-in-loop-i : goal.overflow_add-to-in-loop-i
-overflow_add-to-in-loop-i c = omega (arith, c.requires.le_at.1, c.loop-i-test.true)
+overflow_add-to-in-loop-i c = omega (arith, c.requires.room.1, c.loop-i-test.true)
 
 pub lay-requires : goal.lay-requires
 lay-requires c =
-    record { t_value = all_get (λ (t : ℕ). valid_number (term_of t).inner ≡ true) c.args.ts.now c.loop-i.i 0 c.requires.all c.loop-i-test.true; at_in_bounds = (omega (arith, c.requires.le_at.1, c.loop-i-test.true, c.loop-i.invariant.1.long), omega (arith, c.requires.le_at.1, c.loop-i-test.true, c.loop-i.invariant.1.long)) }
+    record { t_value = all_get (λ (t : ℕ). valid_number (term_of t).inner ≡ true) c.args.ts.now c.loop-i.i 0 c.requires.shifts_there c.loop-i-test.true; at_in_bounds = (omega (arith, c.requires.room.1, c.loop-i-test.true, c.loop-i.invariant.1.long), omega (arith, c.requires.room.1, c.loop-i-test.true, c.loop-i.invariant.1.long)) }
 
 pub loop-i-preserved : goal.loop-i-preserved
 loop-i-preserved c = (
   omega (arith, c.loop-i-test.true),
   subst (λ (x : List ℕ). Entries c.args.table.now c.args.decisions.now c.args.alive.now x c.args.ts.now c.args.at (length c.args.ts.now) (c.loop-i.i + 1)) (sym c.lay.ensures)
-      (entries_more c.args.table.now c.args.decisions.now c.args.alive.now c.args.ts.now c.args.at c.requires.by_index c.requires.le_at.0 c.loop-i.alive (length c.args.ts.now) c.loop-i.i c.loop-i.invariant.1 c.loop-i-test.true (omega (arith, c.requires.le_at.1, c.loop-i.invariant.1.long))),
+      (entries_more c.args.table.now c.args.decisions.now c.args.alive.now c.args.ts.now c.args.at c.requires.nodes c.requires.room.0 c.loop-i.alive (length c.args.ts.now) c.loop-i.i c.loop-i.invariant.1 c.loop-i-test.true (omega (arith, c.requires.room.1, c.loop-i.invariant.1.long))),
 )
 
 pub shape_of-alive : goal.shape_of-alive

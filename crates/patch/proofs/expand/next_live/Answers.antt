@@ -13,4 +13,4 @@ pub loop-i-preserved : goal.loop-i-preserved
 loop-i-preserved c = (omega (arith, c.loop-i.invariant.0), omega (arith, c.loop-i-test.true), clear_more c.args.ms.now c.args.mask c.args.from c.loop-i.i c.loop-i.invariant.2 c.if-ms-i-ne0.false)
 
 pub returns : goal.returns
-returns c = (c.loop-i.invariant.0, c.loop-i.invariant.1, c.loop-i.invariant.2, λ h. absurd (omega (arith, c.loop-i-test.false)))
+returns c = (c.requires, omega arith, λ j a b. c.loop-i.invariant.2 j a (omega (arith, c.loop-i-test.false)), λ h. absurd (omega arith))

@@ -1,32 +1,34 @@
 -- The store with the operands that are left taken in is the whole. Assumes nothing.
 use Rattle.reach.proofs.Pulling.{operand_terms, operand_usable, operands_go, operands_end}
 use Rattle.reach.specs.Steps.{pull_terms, pull_operands, Usable}
-use Rattle.lower.proofs.Firsts.{part_all}
+use Rattle.commit_set.proofs.Members.{all_get}
+use Rattle.lower.specs.Stores.{Stands}
+use mathlib.Core.List.{List}
 use Rattle.lower.specs.Lists.{All}
 use Rattle.alive.specs.Masks.{ones}
 use Rattle.operand.specs.Numbers.{Operand, operand_of}
-use lib.ListN.{take, drop, get_or}
+use lib.ListN.{length, drop, get_or}
 use Prim.Native.Nat.{ℕ, ◌+◌}
 use mathlib.Core.Path.{refl, sym, ap, ◌∙◌, subst}
 use Rattle.reach.proofs.met.pull_operands.Goals as goal
 
-pub loop-i-init : goal.loop-i-init
-loop-i-init c = (refl, refl)
+pub loop-h-init : goal.loop-h-init
+loop-h-init c = refl
 
-pub operand_terms-ts-requires : goal.operand_terms-ts-requires
-operand_terms-ts-requires c = part_all c.args.hs.now c.args.n c.loop-i.i 0 c.requires.all c.loop-i-test.true c.requires.n_in_bounds
+pub terms-requires : goal.terms-requires
+terms-requires c = all_get (Stands c.args.stores.now.old.now c.args.stores.now.new.now) c.args.hs.now c.loop-h.h-index 0 c.requires.standing c.loop-h-test.true
 
 pub pull_terms-requires : goal.pull_terms-requires
-pull_terms-requires c = operand_usable c.args.old.now c.args.new.now (get_or c.args.hs.now c.loop-i.i 0) c.operand_terms-ts.result.now c.operand_terms-ts.ensures _
-    (subst (λ (k : ℕ). All (Usable k) (operand_of c.args.old.now c.args.new.now (get_or c.args.hs.now c.loop-i.i 0))) (sym c.loop-i.invariant.0) (part_all c.args.hs.now c.args.n c.loop-i.i 0 c.requires.all_2 c.loop-i-test.true c.requires.n_in_bounds))
+pull_terms-requires c = operand_usable c.args.stores.now.old.now c.args.stores.now.new.now (get_or c.args.hs.now c.loop-h.h-index 0) c.terms.result.now c.terms.ensures _
+    (subst (λ (k : ℕ). All (Usable k) (operand_of c.args.stores.now.old.now c.args.stores.now.new.now (get_or c.args.hs.now c.loop-h.h-index 0))) (sym c.loop-h.auto.masks) (all_get (λ (h : ℕ). All (Usable (length c.args.masks.now)) (operand_of c.args.stores.now.old.now c.args.stores.now.new.now h)) c.args.hs.now c.loop-h.h-index 0 c.requires.usable c.loop-h-test.true))
 
-pub loop-i-preserved : goal.loop-i-preserved
-loop-i-preserved c = (
-  c.pull_terms.auto.masks ∙ c.loop-i.invariant.0,
-  ap (pull_operands c.args.old.now c.args.new.now (drop (c.loop-i.i + 1) (take c.args.n c.args.hs.now)))
-      (c.pull_terms.ensures ∙ ap (λ (o : Operand). pull_terms ones o c.loop-i.masks) (operand_terms c.args.old.now c.args.new.now (get_or c.args.hs.now c.loop-i.i 0) c.operand_terms-ts.result.now c.operand_terms-ts.ensures))
-      ∙ sym (operands_go c.args.old.now c.args.new.now c.args.hs.now c.args.n c.requires.n_in_bounds c.loop-i.masks c.loop-i.i c.loop-i-test.true) ∙ c.loop-i.invariant.1,
-)
+pub loop-h-preserved : goal.loop-h-preserved
+loop-h-preserved c =
+    let old : List ℕ = c.args.stores.now.old.now in
+    let new : List ℕ = c.args.stores.now.new.now in
+    ap (pull_operands old new (drop (c.loop-h.h-index + 1) c.args.hs.now))
+    (c.pull_terms.ensures ∙ ap (λ (o : Operand). pull_terms ones o c.loop-h.masks) (operand_terms old new (get_or c.args.hs.now c.loop-h.h-index 0) c.terms.result.now c.terms.ensures))
+    ∙ sym (operands_go old new c.args.hs.now c.loop-h.masks c.loop-h.h-index c.loop-h-test.true) ∙ c.loop-h.invariant
 
 pub returns : goal.returns
-returns c = sym (operands_end c.args.old.now c.args.new.now c.args.hs.now c.args.n c.requires.n_in_bounds c.loop-i.masks c.loop-i.i c.loop-i-test.false) ∙ c.loop-i.invariant.1
+returns c = sym (operands_end c.args.stores.now.old.now c.args.stores.now.new.now c.args.hs.now c.loop-h.masks c.loop-h.h-index c.loop-h-test.false) ∙ c.loop-h.invariant

@@ -1,11 +1,7 @@
-use Rattle.reach.specs.Steps.{held, reach_from}
-use lib.ListN.{length, drop}
-use Prim.Native.Nat.{◌-◌, ◌≤◌}
+use Rattle.reach.specs.Steps.{held_in, reach_from}
+use lib.ListN.{drop}
 use mathlib.Core.Path.{◌≡◌}
 use Rattle.reach.proofs.met.reach_from.Given as goal
 
-abbrev pub invariant-loop-i : goal.invariant-loop-i
-invariant-loop-i l = (l.left ≤ l.i) × (length l.masks ≡ length l.initial.masks) × (reach_from (held l.old l.new l.dsts l.rhss l.decisions) (drop l.i l.order) l.masks ≡ reach_from (held l.old l.new l.dsts l.rhss l.decisions) (drop l.left l.order) l.initial.masks)
-
-abbrev pub decreases-loop-i : goal.decreases-loop-i
-decreases-loop-i l = length l.order - l.i
+abbrev pub invariant-loop-d : goal.invariant-loop-d
+invariant-loop-d l = reach_from (held_in l.system l.decisions) (drop l.d-index l.order) l.masks ≡ reach_from (held_in l.system l.decisions) l.order l.initial.masks

@@ -1,27 +1,39 @@
--- The store with the definitions from the last one on is the whole. Assumes nothing.
-use Rattle.reach.proofs.Storing.{all_from, from_end, from_back}
-use Rattle.reach.specs.Steps.{Held, held, Able}
-use lib.ListN.{length, get_or}
-use native.Mathlib.Omega.{arith}
-use Prim.Native.Nat.{ℕ, ◌-◌}
-use mathlib.Core.Path.{◌≡◌, refl, sym, ◌∙◌, subst}
+-- The store with the definitions that are left is the whole. Assumes nothing.
+use Rattle.std.specs.Iterator.Adapters.{rev_source}
+use Rattle.std.specs.Slice.Iter.{iter_rest}
+use Rattle.lower.specs.Lists.{All}
+use Rattle.lower.proofs.Laws.{all_left, all_right}
+use Rattle.reach.proofs.Storing.{from_last, from_none, all_one}
+use Rattle.reach.specs.Steps.{Held, held_in, alive_from, Able}
+use lib.ListN.{length}
+use Prim.Native.Nat.{ℕ}
+use mathlib.Core.List.{List}
+use mathlib.Core.Path.{◌≡◌, sym, ap, ◌∙◌, subst}
 use Rattle.reach.proofs.written.mask_from.Goals as goal
 
-pub loop-i-init : goal.loop-i-init
-loop-i-init c = (c.requires.left_in_bounds, omega arith, refl, from_end (held c.args.old.now c.args.new.now c.args.dsts.now c.args.rhss.now c.args.decisions.now) c.args.masks.now c.args.order.now)
+pub loop-d-init : goal.loop-d-init
+loop-d-init c =
+    let h : Held = held_in c.args.system.now c.args.decisions.now in
+    let e : iter_rest (rev_source c.into_iter-d-iterator.result) ≡ c.args.order.now = ap (λ r. iter_rest (rev_source r)) c.into_iter-d-iterator.ensures.into_iter_gives ∙ ap iter_rest c.rev-d-items.ensures.source ∙ c.iter.ensures.rest in
+    record { able = subst (All (Able h (length c.args.masks.now))) (sym e) c.requires; left = ap (λ (ds : List ℕ). alive_from h ds c.args.masks.now) e }
 
 pub mask_one-requires : goal.mask_one-requires
-mask_one-requires c = let h : Held = held c.args.old.now c.args.new.now c.args.dsts.now c.args.rhss.now c.args.decisions.now in
-    subst (λ (n : ℕ). Able h n (get_or c.args.order.now (c.loop-i.i - 1) 0)) (sym c.loop-i.invariant.2) (all_from {P = Able h (length c.args.masks.now)} c.args.order.now c.args.left (c.loop-i.i - 1) c.requires.all (omega arith) (omega arith))
+mask_one-requires c =
+    let h : Held = held_in c.args.system.now c.args.decisions.now in
+    let P : ℕ → Type 0 = Able h (length c.args.masks.now) in
+    subst (λ (n : ℕ). Able h n c.in-Some.d.now) (sym c.loop-d.auto.masks) (all_one (all_right P (iter_rest (rev_source c.next.new.self)) _ (subst (All P) c.in-Some.ensures.steps c.loop-d.invariant.able)))
 
-pub loop-i-preserved : goal.loop-i-preserved
-loop-i-preserved c =
-    let h : Held = held c.args.old.now c.args.new.now c.args.dsts.now c.args.rhss.now c.args.decisions.now in (
-      omega arith,
-      omega arith,
-      c.mask_one.auto.masks ∙ c.loop-i.invariant.2,
-      from_back h c.args.masks.now c.args.order.now c.loop-i.i c.loop-i.masks _ (omega arith) c.loop-i.invariant.1 c.loop-i.invariant.3 c.mask_one.ensures,
-    )
+pub loop-d-preserved : goal.loop-d-preserved
+loop-d-preserved c =
+    let h : Held = held_in c.args.system.now c.args.decisions.now in
+    let P : ℕ → Type 0 = Able h (length c.args.masks.now) in
+    let e = c.in-Some.ensures.steps in
+    record {
+      able = all_left P (iter_rest (rev_source c.next.new.self)) _ (subst (All P) e c.loop-d.invariant.able);
+      left = ap (alive_from h (iter_rest (rev_source c.next.new.self))) c.mask_one.ensures ∙ sym (from_last h c.in-Some.d.now c.loop-d.masks _) ∙ sym (ap (λ (ds : List ℕ). alive_from h ds c.loop-d.masks) e) ∙ c.loop-d.invariant.left;
+    }
 
 pub returns : goal.returns
-returns c = let e : c.loop-i.i ≡ c.args.left = omega (arith, c.loop-i.invariant.0) in rw e at c.loop-i.invariant.3
+returns c =
+    let h : Held = held_in c.args.system.now c.args.decisions.now in
+    sym (from_none h (iter_rest (rev_source c.loop-d.d-iterator)) c.loop-d.masks c.in-None.ensures.steps.0) ∙ c.loop-d.invariant.left

@@ -1,8 +1,7 @@
 -- What was read once more, against all that was lent. Assumes nothing.
 use Rattle.std.proofs.Common.{[]}
-use Rattle.replay_fuse.proofs.Calls.{are_kept}
 use Rattle.lower.specs.Stores.{stores}
 use Rattle.replay_fuse.proofs.judge.kept.Goals as goal
 
 pub returns : goal.returns
-returns c = record { before = stores _ [] _ _ _ _ _ _; answer = _; reads = c.read.ensures; right = are_kept _ _ _ _ _ _ _ c.rows_kept-is_rows.ensures c.lists_kept-is_lists.ensures c.made_kept.ensures c.all.ensures }
+returns c = record { before = stores _ [] _ _ _ _ _ _; answer = _; reads = c.read.ensures; right = c.all_kept.ensures }

@@ -1,5 +1,5 @@
 -- The field that is cut is found from where the walk stands; its start never passes the end. Assumes nothing.
-use Rattle.std.proofs.Common.{◌≡◌, ◌+◌, ◌-◌, length, sym, refl, ap, ◌∙◌, arith, le-leb}
+use Rattle.std.proofs.Common.{◌≡◌, ◌+◌, ◌-◌, length, sym, ap, ◌∙◌, arith, le-leb}
 use borrow.Author.Tests.{lt-leb}
 use Rattle.house_file.specs.Decoding.{field_end}
 use Rattle.replay_house.specs.Replay.{cut_from, cut_at}
@@ -10,28 +10,25 @@ pub returns-then-file-end : goal.returns-then-file-end
 unfolding cut_at
 returns-then-file-end c = rw (lt-leb c.args.end (length c.args.file.now) c.if-file-end.true)
 
-pub loop-left-init : goal.loop-left-init
-loop-left-init c = (refl, omega arith)
-
 pub returns-then-end-at : goal.returns-then-end-at
 unfolding cut_at
 returns-then-end-at c =
-    rw (le-leb c.args.end (length c.args.file.now) c.if-file-end.false) (sym (c.loop-left.invariant.0 ∙ cut_head c.args.file.now c.args.end c.loop-left.at c.loop-left.left c.loop-left-test.true c.if-end-at.true))
+    rw (le-leb c.args.end (length c.args.file.now) c.if-file-end.false) (sym (c.loop.invariant.0 ∙ cut_head c.args.file.now c.args.end c.loop.at c.args.end c.loop.counter (omega arith) c.if-end-at.true))
 
 pub returns-then-end-next : goal.returns-then-end-next
 unfolding cut_at
 returns-then-end-next c =
-    rw (le-leb c.args.end (length c.args.file.now) c.if-file-end.false) (sym (c.loop-left.invariant.0 ∙ cut_here c.args.file.now c.args.end c.loop-left.at c.loop-left.left c.loop-left-test.true c.if-end-at.false (omega (arith, c.if-end-next.true, c.num.ensures.0))))
+    rw (le-leb c.args.end (length c.args.file.now) c.if-file-end.false) (sym (c.loop.invariant.0 ∙ cut_here c.args.file.now c.args.end c.loop.at c.args.end c.loop.counter (omega arith) c.if-end-at.false (omega (arith, c.if-end-next.true, c.num.ensures.0))))
 
-pub loop-left-preserved : goal.loop-left-preserved
-loop-left-preserved c =
-    let e : field_end c.args.file.now c.loop-left.at ≡ c.loop-left.at + 3 + c.num.result = omega (arith, c.num.ensures.0) in (
-      c.loop-left.invariant.0 ∙ cut_on c.args.file.now c.args.end c.loop-left.at c.loop-left.left c.loop-left-test.true c.if-end-at.false (omega (arith, e, c.if-end-next.false))
-          ∙ ap (cut_from c.args.file.now c.args.end (c.loop-left.left - 1)) e,
+pub loop-preserved : goal.loop-preserved
+loop-preserved c =
+    let e : field_end c.args.file.now c.loop.at ≡ c.loop.at + 3 + c.num.result = omega (arith, c.num.ensures.0) in (
+      c.loop.invariant.0 ∙ cut_on c.args.file.now c.args.end c.loop.at c.args.end c.loop.counter (omega arith) c.if-end-at.false (omega (arith, e, c.if-end-next.false))
+          ∙ ap (cut_from c.args.file.now c.args.end (c.args.end - (c.loop.counter + 1))) e,
       c.if-end-next.false,
     )
 
 pub returns : goal.returns
 unfolding cut_at
 returns c =
-    rw (le-leb c.args.end (length c.args.file.now) c.if-file-end.false) (sym (c.loop-left.invariant.0 ∙ cut_end c.args.file.now c.args.end c.loop-left.at c.loop-left.left (omega arith)))
+    rw (le-leb c.args.end (length c.args.file.now) c.if-file-end.false) (sym (c.loop.invariant.0 ∙ cut_end c.args.file.now c.args.end c.loop.at _ (omega arith)))

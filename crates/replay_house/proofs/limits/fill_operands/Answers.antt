@@ -1,18 +1,16 @@
 -- What is left to make, made from where the walk stands, is the store. Assumes nothing.
-use Rattle.std.proofs.Common.{◌-◌, length, sym, ◌∙◌, arith, length-set}
+use Rattle.std.proofs.Common.{◌-◌, length, sym, ◌∙◌, arith}
 use Rattle.replay_house.specs.Replay.{operand_made}
 use Rattle.replay_house.proofs.Made.{sets-made, sets-none-made, sets_all, made_less, made_first}
 use Rattle.replay_house.proofs.limits.fill_operands.Goals as goal
 
 pub loop-i-init : goal.loop-i-init
-loop-i-init c = (made_first (operand_made c.args.len) c.args.store.now, omega arith)
+loop-i-init c = made_first (operand_made c.args.len) c.args.store.now
 
 pub loop-i-preserved : goal.loop-i-preserved
-loop-i-preserved c = (
-  c.loop-i.invariant.0 ∙ sets-made (operand_made c.args.len) c.loop-i.store c.loop-i.i (length c.args.store.now - c.loop-i.i) (omega (arith, c, c.loop-i-test.true)) ∙ rw (c.operand_at.ensures, made_less (length c.args.store.now) c.loop-i.i),
-  (omega (arith, c, c.loop-i-test.true), length-set c.loop-i.store c.loop-i.i c.operand_at.result ∙ c.loop-i.invariant.1.1),
-)
+loop-i-preserved c =
+    c.loop-i.invariant ∙ sets-made (operand_made c.args.len) c.loop-i.store c.loop-i.i (length c.args.store.now - c.loop-i.i) (omega arith) ∙ rw (c.operand_at.ensures, made_less (length c.args.store.now) c.loop-i.i)
 
 pub returns : goal.returns
 returns c =
-    sym (sym (sets_all (operand_made c.args.len) c.args.store.now) ∙ c.loop-i.invariant.0 ∙ sets-none-made (operand_made c.args.len) c.loop-i.store c.loop-i.i _ (omega (arith, c, c.loop-i-test.false)))
+    sym (sym (sets_all (operand_made c.args.len) c.args.store.now) ∙ c.loop-i.invariant ∙ sets-none-made (operand_made c.args.len) c.loop-i.store c.loop-i.i _ (omega arith))

@@ -11,6 +11,5 @@ returns-then-two-n c = rw c.count-then-two-n.ensures (again_short_two c.args.see
 
 pub returns : goal.returns
 returns c =
-    let e : c.args.seen.length - 0 ≡ c.args.seen.length = omega arith in
-    let q = rw e at c.compared.ensures in
+    let q = c.compared.ensures in
     rw (q.0, q.1) (again_is c.args.seen c.args.one.now c.args.two.now c.args.t c.if-one-n.false c.if-two-n.false)

@@ -1,8 +1,5 @@
--- In a part of a store that is made for it. Assumes nothing.
-use Rattle.replay_undo.proofs.Calls.{in_room}
-use Rattle.replay_undo.proofs.Parts.{less_none}
-use Rattle.std.proofs.Common.{◌∙◌}
+-- By what the evaluator answers and leaves. Assumes nothing.
 use Rattle.replay_undo.proofs.back.evaluation.Goals as goal
 
 pub returns : goal.returns
-returns c = in_room _ _ _ _ _ _ _ _ _ _ (less_none _ ∙ c.least-m.ensures.0) c.in_part.ensures
+returns c = record { out = _; answer = _; is_right = _; evaluates = rw c.min-n.ensures at c.evaluate-answer.ensures; right_is = c.is_as_told.ensures; counted = c.count_answer.ensures }

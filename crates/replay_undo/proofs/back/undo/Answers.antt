@@ -1,8 +1,12 @@
--- Parts of three stores that are made for it. Assumes nothing.
-use Rattle.replay_undo.proofs.Calls.{in_stores}
-use Rattle.replay_undo.proofs.Parts.{less_none}
-use Rattle.std.proofs.Common.{◌∙◌}
+-- The three parts are as long. Assumes nothing.
 use Rattle.replay_undo.proofs.back.undo.Goals as goal
 
 pub returns : goal.returns
-returns c = in_stores _ _ _ _ _ _ _ _ _ (less_none _ ∙ c.least-m.ensures.0) c.on_noisy.ensures
+returns c =
+    record {
+      noisy = _;
+      other = _;
+      overwrites = rw (c.copy_from_slice.ensures.after, c.rows-d.ensures.0, c.min-n.ensures) at c.overwrite.ensures;
+      lays = rw (c.rows-d.ensures.0, c.min-n.ensures) at c.lay_flags.ensures;
+      undone = rw c.min-n.ensures at c.undone.ensures;
+    }

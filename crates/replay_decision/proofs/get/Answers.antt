@@ -1,7 +1,0 @@
--- Past the end is 0. Assumes nothing.
-use Rattle.std.proofs.Common.{sym}
-use lib.ListN.{get_or-eq_default}
-use Rattle.replay_decision.proofs.get.Goals as goal
-
-pub returns : goal.returns
-returns c = sym (get_or-eq_default c.args.l.now 0 c.if-i-l.false)

@@ -1,9 +1,0 @@
-use Rattle.replay_fuse.specs.Places.{same_places}
-use Rattle.std.proofs.Common.{◌≡◌, ◌-◌, ◌≤◌}
-use Rattle.replay_fuse.proofs.places.same_destinations.Given as goal
-
-abbrev pub invariant-loop-i : goal.invariant-loop-i
-invariant-loop-i l = (l.i ≤ l.n) × (l.c ≤ l.i) × (l.c ≡ same_places l.a l.b l.from l.i)
-
-abbrev pub decreases-loop-i : goal.decreases-loop-i
-decreases-loop-i l = l.n - l.i

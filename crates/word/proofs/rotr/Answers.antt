@@ -1,9 +1,0 @@
--- `word::rotr` answers by the test of the amount. Assumes nothing.
-use Rattle.word.proofs.Answered.{shifted, refused}
-use Rattle.word.proofs.rotr.Goals as goal
-
-pub returns-then-n-lt64 : goal.returns-then-n-lt64
-returns-then-n-lt64 c = shifted c.if-n-lt64.true c.rotr.ensures
-
-pub returns-else-n-lt64 : goal.returns-else-n-lt64
-returns-else-n-lt64 c = refused c.if-n-lt64.false

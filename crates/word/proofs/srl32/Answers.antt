@@ -1,9 +1,0 @@
--- `word::srl32` answers by the test of the amount. Assumes nothing.
-use Rattle.word.proofs.Answered.{shifted, refused}
-use Rattle.word.proofs.srl32.Goals as goal
-
-pub returns-then-n-lt32 : goal.returns-then-n-lt32
-returns-then-n-lt32 c = shifted c.if-n-lt32.true c.srl32.ensures
-
-pub returns-else-n-lt32 : goal.returns-else-n-lt32
-returns-else-n-lt32 c = refused c.if-n-lt32.false
