@@ -1,11 +1,12 @@
 -- Runs of stores, one after the other, and what is read past them. Assumes nothing.
 use mathlib.Core.Path.{◌≡◌, refl, sym, ap, ◌∙◌}
-use Prim.Native.Nat.{ℕ, suc, ◌+◌, ◌≤◌}
+use Prim.Native.Nat.{ℕ, suc, ◌+◌, ◌≤◌, ◌<◌}
 use mathlib.Core.Bool.{Bool, true, false, not}
 use mathlib.Core.List.{List, [], ◌∷◌, ◌++◌, map}
 use native.Mathlib.Omega.{arith}
+use native.Mathlib.Numerals.{add-one}
 use lib.ListN.{length, get_or, set, take, drop}
-use lib.Seq.{sets, sets-eq, paste, get_or-set_other, drop-set-lt, length-take-le}
+use lib.Seq.{sets, sets-eq, paste, take-suc, get_or-set_other, drop-set-lt, length-take-le}
 use Rattle.operand.specs.Numbers.{operand_of}
 use Rattle.patch.specs.Spelling.{row_names}
 use Rattle.patch.proofs.Writing.{sets_both}
@@ -21,6 +22,13 @@ drop_past l n p (x ∷ xs) h = drop_past (set l n x) (suc n) p xs (omega (arith,
 pub get_past : (l : List ℕ) (n p : ℕ) (xs : List ℕ) → n + length xs ≤ p → get_or (sets l n xs) p 0 ≡ get_or l p 0
 get_past l n p [] h = refl
 get_past l n p (x ∷ xs) h = get_past (set l n x) (suc n) p xs (omega (arith, h)) ∙ get_or-set_other l n p x 0 (λ e. omega (arith, h, e))
+
+-- the first i of a list, and one more
+pub copy_step : (f : List ℕ) (i : ℕ) → i < length f → (l : List ℕ) (at : ℕ) → set (sets l at (take i f)) (at + i) (get_or f i 0) ≡ sets l at (take (i + 1) f)
+copy_step f i h l at =
+    let e : take (i + 1) f ≡ take i f ++ (get_or f i 0 ∷ []) = rw (add-one, take-suc f i 0 h) in
+    let n : length (take i f) ≡ i = length-take-le i f (omega (arith, h)) in
+    sets_next l at (at + i) (take i f) (get_or f i 0 ∷ []) (omega (arith, n)) ∙ ap (sets l at) (sym e)
 
 -- a part written over is a run of stores
 pub paste_sets : (l : List ℕ) (at : ℕ) (s : List ℕ) (n : ℕ) → at + n ≤ length l → n ≤ length s → paste l at s n ≡ sets l at (take n s)

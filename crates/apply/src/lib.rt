@@ -11,12 +11,15 @@ use legraph::Node;
 use lower::Sizes;
 use operand::{TermStores, Wire};
 
-// All of `from`, from the place `at` on.
+// All of `from`, from the place `at` on. No `copy_from_slice`: between two lists that are lent it becomes a memmove, and the archive for C
+// needs memcpy and memset alone.
 pub fn extend(to: &mut [u64], at: usize, from: &[u64])
     requires { at + length from.now ≤ length to.old }
     ensures { to.new ≡ sets to.old at from.now }
 {
-    to[at..at + from.len()].copy_from_slice(from);
+    for i in 0..from.len() {
+        to[at + i] = from[i];
+    }
 }
 
 // A row that names a defined wire is struck, any other goes down over what was struck. Answers the next place to write.

@@ -8,7 +8,6 @@ ghost use Rattle.std.specs.Prelude.{◌≤◌, length};
 ghost use Rattle.fuse.specs.Printed.{Covers};
 
 use asked::Asked;
-use refusal::Refusal;
 use report::{Fault, FusedFile};
 use std::env::{Env, FillError};
 use std::io::Write;
@@ -33,11 +32,19 @@ fn print(rt: HostRuntime, text: &[u8]) -> ExitCode {
     }
 }
 
+fn refused(rt: HostRuntime, fault: Fault) -> ExitCode {
+    let mut line = [0u8; 64];
+    let Ok(length) = report::fault_line(fault, &mut line) else {
+        return ExitCode::SUCCESS;
+    };
+    ended(rt.stderr().write_all(&line[..length]))
+}
+
 fn print_committed(rt: HostRuntime, flags: &[u8]) -> ExitCode {
     let mut lines = [0u8; MAX_LINES];
     match text::committed_lines(flags, &mut lines) {
         Ok(length) => print(rt, &lines[..length]),
-        Err(refusal) => ended(eprintln!(rt; "refused {refusal}")),
+        Err(refusal) => refused(rt, Fault::Refused(refusal)),
     }
 }
 
@@ -53,7 +60,7 @@ fn print_answer(
     match answer {
         Ok(fused) if is_committed => print_committed(rt, &flags[..fused.wires]),
         Ok(fused) => print(rt, &out[..fused.length]),
-        Err(fault) => ended(eprintln!(rt; "refused {fault}")),
+        Err(fault) => refused(rt, fault),
     }
 }
 
@@ -77,7 +84,9 @@ fn run(rt: HostRuntime, asked: Asked) -> ExitCode {
 }
 
 // The word `i`, the program's name being the first, put into `buf`; empty where it is missing, longer than `buf` or no text.
-fn word<'a>(env: &impl Env, i: usize, buf: &'a mut [u8]) -> &'a str {
+fn word<'a>(env: &impl Env, i: usize, buf: &'a mut [u8]) -> &'a str
+    ensures { length result.now ≤ length buf.old }
+{
     match env.arg(i, buf) {
         Ok(n) => str::from_utf8(&buf[..n]).unwrap_or(""),
         Err(_) => "",

@@ -204,9 +204,9 @@ fn prepare(
     ))
 }
 
-// Fuses a system in the lent stores with so many slots a term: its lists are patched, `new` has the new terms and `flags` the committed
-// wires; or a refusal, and everything is as it was.
-pub fn fuse(
+// Fuses a system that the checks have found nothing in, or refuses it for a circle or for room. The arrays stand here, so that a call that
+// the checks refuse clears none, and first, so that they are cleared once: a function's locals are cleared as it begins.
+fn fuse_checked(
     old: &[u64],
     new: &mut [u64],
     ands: &mut [u64],
@@ -217,11 +217,11 @@ pub fn fuse(
     rhss: &mut [u64],
     flags: &mut [u8],
     z: Sizes,
-    slots: u64,
+    slots: u8,
 ) -> Result<Counts, Refusal>
+    requires no_fault { decision_fault slots z (stores old.now [] ands.old imuls.old bmuls.old zeros.old dsts.old rhss.old) ≡ 0 }
     ensures { Fuses slots z (lent old.now new.old ands.old imuls.old bmuls.old zeros.old dsts.old rhss.old flags.old) (lent old.now new.new ands.new imuls.new bmuls.new zeros.new dsts.new rhss.new flags.new) (told_fused result) }
 {
-    // Ahead of all else, so that they are cleared once: a function's locals are cleared as it begins.
     let mut table = [0u16; lower::MAX_WIRES];
     let mut decisions = [0u64; lower::MAX_DEFINITIONS];
     let mut reach = [0u64; lower::MAX_DEFINITIONS];
@@ -237,10 +237,9 @@ pub fn fuse(
         rhss: &*rhss,
         sizes: z,
     };
-    commit_set::check(&system, slots)?;
     let cursor = prepare(
         &system,
-        slots as u8,
+        slots,
         &mut table,
         &mut decisions,
         &mut reach,
@@ -267,4 +266,47 @@ pub fn fuse(
         &out[..cursor.count],
         &list,
     ))
+}
+
+// Fuses a system in the lent stores with so many slots a term: its lists are patched, `new` has the new terms and `flags` the committed
+// wires; or a refusal, and everything is as it was.
+pub fn fuse(
+    old: &[u64],
+    new: &mut [u64],
+    ands: &mut [u64],
+    imuls: &mut [u64],
+    bmuls: &mut [u64],
+    zeros: &mut [u64],
+    dsts: &mut [u16],
+    rhss: &mut [u64],
+    flags: &mut [u8],
+    z: Sizes,
+    slots: u64,
+) -> Result<Counts, Refusal>
+    ensures { Fuses slots z (lent old.now new.old ands.old imuls.old bmuls.old zeros.old dsts.old rhss.old flags.old) (lent old.now new.new ands.new imuls.new bmuls.new zeros.new dsts.new rhss.new flags.new) (told_fused result) }
+{
+    let system = LentSystem {
+        stores: TermStores { old, new: &[] },
+        ands: &*ands,
+        imuls: &*imuls,
+        bmuls: &*bmuls,
+        zeros: &*zeros,
+        dsts: &*dsts,
+        rhss: &*rhss,
+        sizes: z,
+    };
+    commit_set::check(&system, slots)?;
+    fuse_checked(
+        old,
+        &mut *new,
+        &mut *ands,
+        &mut *imuls,
+        &mut *bmuls,
+        &mut *zeros,
+        &mut *dsts,
+        &mut *rhss,
+        &mut *flags,
+        z,
+        slots as u8,
+    )
 }

@@ -130,10 +130,7 @@ impl<'a> TermStores<'a> {
         requires { Within self.now.old.now self.now.new.now (operand_at h) }
         ensures { result.now ≡ terms_at self.now.old.now self.now.new.now (operand_at h) }
     {
-        let operand = WireOperand::from_number(h);
-        let store = self.store(operand);
-        let start = operand.start();
-        &store[start..start + operand.len()]
+        valid::as_slice(WireOperand::from_number(h), self.old, self.new)
     }
 }
 

@@ -1,8 +1,9 @@
-// push_inner of shifts that are known to be valid, and the number of an operand. Follows frontend/src/lower/operand.rs.
+// push_inner of shifts that are known to be valid, and operands that are known to lie within their store. Follows
+// frontend/src/lower/operand.rs.
 ghost use Rattle.std.specs.Prelude.{◌≡◌, ◌<◌};
 ghost use Rattle.shift.specs.Shifts.{Valid};
 ghost use Rattle.operand.specs.Push.{lone_of, fold_outer, push_valid, keep_both};
-ghost use Rattle.operand.specs.Numbers.{operand_number};
+ghost use Rattle.operand.specs.Numbers.{Within, terms_at, operand_number};
 
 use crate::{PushInner, WireOperand};
 use shift::{Composition, Shift};
@@ -51,6 +52,16 @@ pub fn push_inner(inner: Shift, outer: Shift, shift: Shift, slots: usize) -> Pus
         Composition::Zero => PushInner::Zero,
         Composition::Pair => keep_both(inner, outer, shift, slots),
     }
+}
+
+// The terms of an operand, as a part of whichever store holds them: of every operand, those too that no number stands for.
+pub fn as_slice<'a>(operand: WireOperand, old: &'a [u64], new: &'a [u64]) -> &'a [u64]
+    requires { Within old.now new.now operand }
+    ensures { result.now ≡ terms_at old.now new.now operand }
+{
+    let store = if operand.new { new } else { old };
+    let start = operand.start();
+    &store[start..start + operand.len()]
 }
 
 // The number that stands for an operand in a list.

@@ -101,9 +101,9 @@ module _ (slots : ℕ) (z : Sizes) (old new ands imuls bmuls zeros : List ℕ) (
 
 -- ---- filling back, evaluating and writing leave the records
 module _ (z : Sizes) (old new ands imuls bmuls zeros : List ℕ) (ds : List Definition) where
-  pub fill_records_once : (flags ws ws₁ ws₂ : List ℕ) (r₁ r₂ : ℕ) → FillsIs z (stores_by old [] ands imuls bmuls zeros ds) flags ws ws₁ r₁
-      → FillsIs z (stores_by old [] ands imuls bmuls zeros ds) flags ws ws₂ r₂ → (r₁ ≡ r₂) × (ws₁ ≡ ws₂)
-  fill_records_once flags ws ws₁ ws₂ r₁ r₂ x y = fills_once z (stores_by old [] ands imuls bmuls zeros ds) flags ws ws₁ ws₂ r₁ r₂ x y
+  pub fill_records_once : (flags ws ws₁ ws₂ : List ℕ) (r₁ r₂ : ℕ) → FillsIs z (stores_by old new ands imuls bmuls zeros ds) flags ws ws₁ r₁
+      → FillsIs z (stores_by old new ands imuls bmuls zeros ds) flags ws ws₂ r₂ → (r₁ ≡ r₂) × (ws₁ ≡ ws₂)
+  fill_records_once flags ws ws₁ ws₂ r₁ r₂ x y = fills_once z (stores_by old new ands imuls bmuls zeros ds) flags ws ws₁ ws₂ r₁ r₂ x y
 
   pub evaluate_records_once : (ws out : List ℕ) (r r₂ : Result ℕ Refusal) (o o₂ : List ℕ) → EvaluateIs z (stores_by old new ands imuls bmuls zeros ds) ws out r o
       → EvaluateIs z (stores_by old new ands imuls bmuls zeros ds) ws out r₂ o₂ → (r ≡ r₂) × (o ≡ o₂)

@@ -5,7 +5,7 @@ use Prim.Native.Nat.{ℕ, min, ◌≤◌, ◌<◌}
 use native.Mathlib.Omega.{arith}
 use mathlib.Core.Bool.{Bool, true, false}
 use mathlib.Core.List.{List, []}
-use lib.ListN.{length, take}
+use lib.ListN.{length, take, length-map}
 use lib.Seq.{sets}
 use borrow.Author.Tests.{lt-ltb, le-ltb}
 use Rattle.std.proofs.Common.{Result, Err}
@@ -21,12 +21,12 @@ use Rattle.fusion.specs.Answer.{Fuses}
 use Rattle.fill_back.specs.Filling.{FillsIs}
 use Rattle.house_write.specs.Write.{WriteIs}
 use Rattle.evaluate.specs.Evaluation.{EvaluateIs}
-use Rattle.records.specs.Records.{crowded, crowd_fault, rows_only}
+use Rattle.records.specs.declared.Definition as D
 use Rattle.records.proofs.Laws.{lt_or_le}
-use Rattle.records.proofs.Crowds.{else_assoc, else_not, rows_first, long_fault, crowd_some, crowded_over}
+use Rattle.records.proofs.Crowds.{else_assoc, else_not, rows_first, long_fault, crowd_some, crowded_over, none_calm, some_crowded}
 use Rattle.records.proofs.Wholes.{fills_calm, fuses_calm, fills_crowd, fuses_crowd, sets_own}
 use Rattle.records.proofs.Writings.{writes_calm, evaluates_calm, writes_crowd, evaluates_crowd}
-use Rattle.records.proofs.First.{held, looked, past_fault, FillsFirst, filled_first, filled_past, FusesFirst, fused_first, fused_past, WritesFirst, written_first, written_past, EvaluatesFirst, evaluated_first, evaluated_past}
+use Rattle.records.specs.Records.{dsts_of, rhss_of, stores_by, lent_by, crowded, crowd_fault, rows_only, held, looked, found, past_fault, FillsFirst, filled_first, filled_past, FusesFirst, fused_first, fused_past, WritesFirst, written_first, written_past, EvaluatesFirst, evaluated_first, evaluated_past}
 
 -- ---- how many
 held_over : (len : ℕ) → 1024 < len → held len ≡ min len 1024
@@ -92,8 +92,8 @@ module _ (z : Sizes) (old new ands imuls bmuls zeros ds rs : List ℕ) (len m n 
     all_looked : n ≡ z.linears
     all_looked = d ∙ ap (λ (i : ℕ). looked i z) (sym a) ∙ looked_all z (length ds) crowd
 
-    found : definitions_fault z.wires old new z.linears ds rs ≡ fault
-    found =
+    found_all : definitions_fault z.wires old new z.linears ds rs ≡ fault
+    found_all =
         long_fault z.wires old new z.linears ds rs many (omega (arith, many, same))
         ∙ ap (λ (i : ℕ). pairs_fault z.wires old new (take i ds) (take i rs)) (sym all_looked)
         ∙ sym f
@@ -102,7 +102,7 @@ module _ (z : Sizes) (old new ands imuls bmuls zeros ds rs : List ℕ) (len m n 
     unfolding past_fault
     past_crowd =
         sym (crowd_some z There crowd
-        ∙ ap (λ (i : ℕ). or_else i 6) (rows_first z old new ands imuls bmuls zeros ds rs [] [] ∙ ap (or_else rows) found)
+        ∙ ap (λ (i : ℕ). or_else i 6) (rows_first z old new ands imuls bmuls zeros ds rs [] [] ∙ ap (or_else rows) found_all)
         ∙ else_assoc rows fault 6)
 
     crowd_not : crowd_fault z There ≡ 0 → ⊥
@@ -167,3 +167,67 @@ module _ (slots : ℕ) (z : Sizes) (old new ands imuls bmuls zeros ds rs flags :
   fuses_all l' t (fused_past h r q) = fuses_past l' _ h r q
   fuses_all l' t (fused_first h y) =
       fuses_calm slots z old new ands imuls bmuls zeros ds rs flags m m_held as_long (calm z old [] ands imuls bmuls zeros ds rs len m n fault e d a b f h) l' t y
+
+-- ---- over records
+abbrev dst_of : D.Definition → ℕ
+dst_of d = d.dst
+
+abbrev rhs_of : D.Definition → ℕ
+rhs_of d = d.rhs
+
+-- a crowd was looked at, and what is told of it is what was found, after the rows and before 6
+pub record Past (z : Sizes) (old new ands imuls bmuls zeros : List ℕ) (ys : List D.Definition) (r : ℕ) : Type 0 where
+  pub some : looked (length ys) z ≡ 0 → ⊥
+  pub told : r ≡ past_fault z old new ands imuls bmuls zeros (found z old new ys)
+
+module _ (z : Sizes) (old new ands imuls bmuls zeros : List ℕ) (ys : List D.Definition) where
+  many_is : length (dsts_of ys) ≡ length ys
+  many_is = length-map ys dst_of
+
+  pub none_looked_at : 0 ≡ crowd_fault z (stores_by old new ands imuls bmuls zeros ys) → looked (length ys) z ≡ 0
+  none_looked_at e = looked_none z (length ys) (ap (crowded z) (sym many_is) ∙ none_calm z (stores_by old new ands imuls bmuls zeros ys) (sym e))
+
+  pub past_is : (r : ℕ) → r ≡ crowd_fault z (stores_by old new ands imuls bmuls zeros ys) → (r ≡ 0 → ⊥) → Past z old new ands imuls bmuls zeros ys r
+  past_is r e h =
+      let t : crowded z (length ys) ≡ true = ap (crowded z) (sym many_is) ∙ some_crowded z (stores_by old new ands imuls bmuls zeros ys) (λ o. h (e ∙ o)) in
+      let some : looked (length ys) z ≡ 0 → ⊥ = λ o. absurd (omega (arith, o, looked_all z (length ys) t, (crowded_over z (length ys) t).0)) in
+      record {
+        some = some;
+        told = e ∙ sym (past_crowd z old new ands imuls bmuls zeros (dsts_of ys) (rhss_of ys) (length ys) (held (length ys)) (looked (length ys) z) (found z old new ys) refl refl many_is (length-map ys rhs_of) refl some);
+      }
+
+-- so many numbers are held
+module _ (z : Sizes) (old new ands imuls bmuls zeros : List ℕ) (ys : List D.Definition) (m : ℕ) (e : m ≡ min (length ys) 1024) where
+  as_held : m ≡ held (length ys)
+  as_held = e ∙ sym (held_min (length ys))
+
+  pub fills_records : (flags ws ws' : List ℕ) (r : ℕ) → FillsFirst (looked (length ys) z) (found z old new ys) z (stores old new ands imuls bmuls zeros (take m (dsts_of ys)) (take m (rhss_of ys))) flags ws ws' r
+      → FillsIs z (stores_by old new ands imuls bmuls zeros ys) flags ws ws' r
+  fills_records flags ws ws' r y =
+      fills_all z old new ands imuls bmuls zeros (dsts_of ys) (rhss_of ys) (length ys) m (looked (length ys) z) (found z old new ys) as_held refl (length-map ys dst_of) (length-map ys rhs_of) refl flags ws ws' r y
+
+  pub writes_records : (out out' : List ℕ) (r : Result ℕ Refusal) → WritesFirst (looked (length ys) z) (found z old new ys) z (stores old new ands imuls bmuls zeros (take m (dsts_of ys)) (take m (rhss_of ys))) out out' r
+      → WriteIs z (stores_by old new ands imuls bmuls zeros ys) out r out'
+  writes_records out out' r y =
+      writes_all z old new ands imuls bmuls zeros (dsts_of ys) (rhss_of ys) (length ys) m (looked (length ys) z) (found z old new ys) as_held refl (length-map ys dst_of) (length-map ys rhs_of) refl out out' r y
+
+  pub evaluates_records : (ws out out' : List ℕ) (r : Result ℕ Refusal) → EvaluatesFirst (looked (length ys) z) (found z old new ys) z (stores old new ands imuls bmuls zeros (take m (dsts_of ys)) (take m (rhss_of ys))) ws out out' r
+      → EvaluateIs z (stores_by old new ands imuls bmuls zeros ys) ws out r out'
+  evaluates_records ws out out' r y =
+      evaluates_all z old new ands imuls bmuls zeros (dsts_of ys) (rhss_of ys) (length ys) m (looked (length ys) z) (found z old new ys) as_held refl (length-map ys dst_of) (length-map ys rhs_of) refl ws out out' r y
+
+  -- us and vs are the first numbers, and us' and vs' what is left of them and put back
+  pub fuses_records : (slots : ℕ) (flags us vs new' ands' imuls' bmuls' zeros' us' vs' flags' : List ℕ) (ys' : List D.Definition) (t : Told)
+      → us ≡ take m (dsts_of ys) → vs ≡ take m (rhss_of ys) → dsts_of ys' ≡ sets (dsts_of ys) 0 us' → rhss_of ys' ≡ sets (rhss_of ys) 0 vs'
+      → FusesFirst (looked (length ys) z) (found z old [] ys) slots z (lent old new ands imuls bmuls zeros us vs flags) (lent old new' ands' imuls' bmuls' zeros' us' vs' flags') t
+      → Fuses slots z (lent_by old new ands imuls bmuls zeros ys flags) (lent_by old new' ands' imuls' bmuls' zeros' ys' flags') t
+  fuses_records slots flags us vs new' ands' imuls' bmuls' zeros' us' vs' flags' ys' t p q p' q' y =
+      let n : ℕ = looked (length ys) z in
+      let fault : ℕ = found z old [] ys in
+      let all : Lent = lent_by old new ands imuls bmuls zeros ys flags in
+      let left : Lent = lent old new' ands' imuls' bmuls' zeros' us' vs' flags' in
+      subst (λ (l : List ℕ). Fuses slots z all (lent old new' ands' imuls' bmuls' zeros' l (rhss_of ys') flags') t) (sym p')
+      (subst (λ (l : List ℕ). Fuses slots z all (lent old new' ands' imuls' bmuls' zeros' (sets (dsts_of ys) 0 us') l flags') t) (sym q')
+      (fuses_all slots z old new ands imuls bmuls zeros (dsts_of ys) (rhss_of ys) flags (length ys) m n fault as_held refl (length-map ys dst_of) (length-map ys rhs_of) refl left t
+      (subst (λ (l : List ℕ). FusesFirst n fault slots z (lent old new ands imuls bmuls zeros l (take m (rhss_of ys)) flags) left t) p
+      (subst (λ (l : List ℕ). FusesFirst n fault slots z (lent old new ands imuls bmuls zeros us l flags) left t) q y))))

@@ -147,7 +147,7 @@ module _ (z : Sizes) (s : Stores) where
   pub none_calm : crowd_fault z s ≡ 0 → crowded z (length s.dsts) ≡ false
   none_calm e = ⊎_elim (λ t. absurd (else_not (places_fault z s) 6 (λ x. omega (arith, x)) (sym (crowd_some t) ∙ e))) (λ f. f) case
 
-  some_crowded : (crowd_fault z s ≡ 0 → ⊥) → crowded z (length s.dsts) ≡ true
+  pub some_crowded : (crowd_fault z s ≡ 0 → ⊥) → crowded z (length s.dsts) ≡ true
   some_crowded h = ⊎_elim (λ t. t) (λ f. absurd (h (calm_none f))) case
 
   -- nothing comes before the fault of a crowd

@@ -7,6 +7,5 @@ pub mod Wholes
 pub mod Readings
 pub mod Writings
 pub mod Agree
-pub mod First
 pub mod Once
 pub mod Alls

@@ -21,7 +21,7 @@ use Rattle.house_file.specs.declared.FileRead.{FileRead}
 use Rattle.house_file.specs.declared.FileFault.{FileFault}
 use Rattle.house_read.specs.Answer.{ReadIs}
 use Rattle.house_read.proofs.Files.{Same, read_once}
-use Rattle.records.proofs.First.{RestKept, FillsFirst, filled_first, filled_past, FusesFirst, fused_first, fused_past, WritesFirst, written_first, written_past, EvaluatesFirst, evaluated_first, evaluated_past}
+use Rattle.records.specs.Records.{RestKept, FillsFirst, filled_first, filled_past, FusesFirst, fused_first, fused_past, WritesFirst, written_first, written_past, EvaluatesFirst, evaluated_first, evaluated_past}
 use Rattle.records.proofs.Agree.{told_once}
 
 -- a slice is its first numbers and the rest

@@ -1,5 +1,5 @@
 -- The first numbers of a longer slice are the records' numbers, and records made of numbers have those. Assumes nothing.
-use mathlib.Core.Path.{◌≡◌, refl, sym, ap, ap₂, ◌∙◌}
+use mathlib.Core.Path.{◌≡◌, refl, sym, ap, ◌∙◌}
 use Prim.Native.Nat.{ℕ, zero, suc, ◌+◌, ◌≤◌}
 use mathlib.Core.List.{List, [], ◌∷◌, ◌++◌, map}
 use native.Mathlib.Omega.{arith}
@@ -61,23 +61,10 @@ module _ (l : List Definition) (ds rs : List ℕ) (n : ℕ) (p : n ≤ length ds
       map-sets (λ (d : Definition). d.rhs) l 0 (made (take n ds) (take n rs))
       ∙ ap (sets (rhss_of l) 0) (made_rhss (take n ds) (take n rs) (omega (arith, length-take-le n ds p, length-take-le n rs q)))
 
--- the first numbers are changed, and the records are made of them
-module _ (l l' : List Definition) (n : ℕ) (xs ys us vs : List ℕ) (p : n ≤ length xs) (q : n ≤ length ys) (a : length us ≡ length (take n xs)) (b : length vs ≡ length (take n ys))
-    (e : l' ≡ reloaded l (take n (us ++ drop n xs)) (take n (vs ++ drop n ys)) (length (take n (us ++ drop n xs)))) where
-  us_long : length us ≡ n
-  us_long = a ∙ length-take-le n xs p
-
-  vs_long : length vs ≡ n
-  vs_long = b ∙ length-take-le n ys q
-
-  front : (ws rest : List ℕ) → length ws ≡ n → take n (ws ++ rest) ≡ ws
-  front ws rest h = ap (λ (i : ℕ). take i (ws ++ rest)) (sym h) ∙ take-append_seam ws rest
-
-  whole : l' ≡ reloaded l us vs n
-  whole = e ∙ ap₂ {C = List Definition} (λ (d r : List ℕ). reloaded l d r (length d)) (front us (drop n xs) us_long) (front vs (drop n ys) vs_long) ∙ ap (reloaded l us vs) us_long
-
+-- records are made of as many numbers of each kind
+module _ (l l' : List Definition) (us vs : List ℕ) (same : length us ≡ length vs) (e : l' ≡ reloaded l us vs (length us)) where
   pub put_dsts : dsts_of l' ≡ sets (dsts_of l) 0 us
-  put_dsts = ap dsts_of whole ∙ reloaded_dsts l us vs n (omega (arith, us_long)) (omega (arith, vs_long)) ∙ ap (sets (dsts_of l) 0) (take_all n us (omega (arith, us_long)))
+  put_dsts = ap dsts_of e ∙ reloaded_dsts l us vs (length us) (omega arith) (omega (arith, same)) ∙ ap (sets (dsts_of l) 0) (take_all (length us) us (omega arith))
 
   pub put_rhss : rhss_of l' ≡ sets (rhss_of l) 0 vs
-  put_rhss = ap rhss_of whole ∙ reloaded_rhss l us vs n (omega (arith, us_long)) (omega (arith, vs_long)) ∙ ap (sets (rhss_of l) 0) (take_all n vs (omega (arith, vs_long)))
+  put_rhss = ap rhss_of e ∙ reloaded_rhss l us vs (length us) (omega arith) (omega (arith, same)) ∙ ap (sets (rhss_of l) 0) (take_all (length us) vs (omega (arith, same)))

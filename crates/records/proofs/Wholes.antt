@@ -38,10 +38,8 @@ use Rattle.fusion.proofs.Closing.{numbers_length}
 use Rattle.undo.specs.FillBack.{FilledBack}
 use Rattle.fill_back.specs.Filling as F
 use Rattle.fill_back.specs.Filling.{FillsIs}
-use Rattle.records.specs.declared.Definition as D
-use Rattle.records.specs.Records.{dsts_of, rhss_of, stores_by, lent_by, crowded, rows_only, crowd_fault}
-use Rattle.records.proofs.Parts.{same_length}
-use Rattle.records.proofs.Crowds.{else_not, rows_first, long_fault, short_fault, calm_or_short, none_calm, crowd_first}
+use Rattle.records.specs.Records.{crowded, rows_only, crowd_fault}
+use Rattle.records.proofs.Crowds.{else_not, rows_first, long_fault, short_fault, calm_or_short, crowd_first}
 
 -- ---- the first fault is the same, and is one
 abbrev pub Same : ℕ → ℕ → Type 0
@@ -351,28 +349,3 @@ fills_crowd z s flags ws r e h = F.refused (e ∙ sym (crowd_first z s 8192 (def
 pub fuses_crowd : (slots : ℕ) (z : Sizes) (l : Lent) (r : ℕ) → r ≡ crowd_fault z (input l) → (r ≡ 0 → ⊥) → Fuses slots z l l (T.refused r)
 unfolding decision_fault
 fuses_crowd slots z l r e h = refused (e ∙ sym (crowd_first z (input l) 8192 (or_else (slots_fault slots) (definition_fault (system_of z (input l)))) (λ o. h (e ∙ o)))) h refl
-
--- ---- over records
-abbrev dst_of : D.Definition → ℕ
-dst_of d = d.dst
-
--- so many numbers are held, and there are not too many
-module _ (z : Sizes) (old ands imuls bmuls zeros : List ℕ) (ys : List D.Definition) (m : ℕ) (e : m ≡ min (length ys) 1024) where
-  held : m ≡ min (length (dsts_of ys)) 1024
-  held = e ∙ ap (λ (n : ℕ). min n 1024) (sym (length-map ys dst_of))
-
-  module _ (new : List ℕ) (none : 0 ≡ crowd_fault z (stores_by old new ands imuls bmuls zeros ys)) where
-    pub fills_records : (flags ws ws' : List ℕ) (r : ℕ) → FillsIs z (stores old new ands imuls bmuls zeros (take m (dsts_of ys)) (take m (rhss_of ys))) flags ws ws' r → FillsIs z (stores_by old new ands imuls bmuls zeros ys) flags ws ws' r
-    fills_records flags ws ws' r y =
-        fills_calm z old new ands imuls bmuls zeros (dsts_of ys) (rhss_of ys) m held (same_length ys) (none_calm z (stores_by old new ands imuls bmuls zeros ys) (sym none)) flags ws ws' r y
-
-  pub fuses_records : (slots : ℕ) (new flags new' ands' imuls' bmuls' zeros' us' vs' flags' : List ℕ) (ys' : List D.Definition) (t : Told) → 0 ≡ crowd_fault z (stores_by old [] ands imuls bmuls zeros ys)
-      → dsts_of ys' ≡ sets (dsts_of ys) 0 us' → rhss_of ys' ≡ sets (rhss_of ys) 0 vs'
-      → Fuses slots z (lent old new ands imuls bmuls zeros (take m (dsts_of ys)) (take m (rhss_of ys)) flags) (lent old new' ands' imuls' bmuls' zeros' us' vs' flags') t
-      → Fuses slots z (lent_by old new ands imuls bmuls zeros ys flags) (lent_by old new' ands' imuls' bmuls' zeros' ys' flags') t
-  fuses_records slots new flags new' ands' imuls' bmuls' zeros' us' vs' flags' ys' t none p q y =
-      let all : Lent = lent_by old new ands imuls bmuls zeros ys flags in
-      let left : Lent = lent old new' ands' imuls' bmuls' zeros' us' vs' flags' in
-      subst (λ (l : List ℕ). Fuses slots z all (lent old new' ands' imuls' bmuls' zeros' l (rhss_of ys') flags') t) (sym p)
-      (subst (λ (l : List ℕ). Fuses slots z all (lent old new' ands' imuls' bmuls' zeros' (sets (dsts_of ys) 0 us') l flags') t) (sym q)
-      (fuses_calm slots z old new ands imuls bmuls zeros (dsts_of ys) (rhss_of ys) flags m held (same_length ys) (none_calm z (stores_by old [] ands imuls bmuls zeros ys) (sym none)) left t y))

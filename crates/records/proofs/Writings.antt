@@ -3,7 +3,7 @@ use mathlib.Core.Path.{◌≡◌, refl, sym, ap, ap₂, ◌∙◌}
 use mathlib.Core.Logic.{⊎_elim}
 use Prim.Native.Nat.{ℕ, zero, suc, min}
 use mathlib.Core.List.{List, [], ◌∷◌}
-use lib.ListN.{length, take, length-map}
+use lib.ListN.{length, take}
 use lib.Seq.{sets}
 use Rattle.std.proofs.Common.{false, Result, Ok, Err}
 use Rattle.std.specs.Result.{IfOk}
@@ -20,10 +20,8 @@ use Rattle.house_file.specs.Format.{entries_of, file_of, file_size}
 use Rattle.house_write.specs.Write.{wide_fault, room_fault, write_fault, bytes_by, numbered, WriteIs}
 use Rattle.evaluate.specs.Evaluation.{values_of, size_fault, evaluation_fault, values_by, numbered_by, EvaluateIs}
 use Rattle.evaluate.specs.Evaluation as X
-use Rattle.records.specs.declared.Definition as D
-use Rattle.records.specs.Records.{dsts_of, rhss_of, stores_by, crowded, crowd_fault}
-use Rattle.records.proofs.Crowds.{none_calm, crowd_first}
-use Rattle.records.proofs.Parts.{same_length}
+use Rattle.records.specs.Records.{crowded, crowd_fault}
+use Rattle.records.proofs.Crowds.{crowd_first}
 use Rattle.records.proofs.Wholes.{same_after, held_or_short, short_memory, first_memory, first_system}
 
 -- ---- a fault tells all, and the system counts only where there is none
@@ -176,18 +174,3 @@ module _ (z : Sizes) (old new ands imuls bmuls zeros ds rs : List ℕ) (m : ℕ)
   evaluates_calm ws out out' r y =
       let g = agrees (λ (p : System). or_else (size_fault z.wires (length ws)) (X.room_fault p (length out))) in
       evaluates_agree z First There ws out out' r g.faults g.system y
-
--- ---- over records, of which so many numbers are held, and of which there are not too many
-module _ (z : Sizes) (old new ands imuls bmuls zeros : List ℕ) (ys : List D.Definition) (m : ℕ) (e : m ≡ min (length ys) 1024) (none : 0 ≡ crowd_fault z (stores_by old new ands imuls bmuls zeros ys)) where
-  held : m ≡ min (length (dsts_of ys)) 1024
-  held = e ∙ ap (λ (n : ℕ). min n 1024) (sym (length-map ys (λ (d : D.Definition). d.dst)))
-
-  calm : crowded z (length (dsts_of ys)) ≡ false
-  calm = none_calm z (stores_by old new ands imuls bmuls zeros ys) (sym none)
-
-  pub writes_records : (out out' : List ℕ) (r : Result ℕ Refusal) → WriteIs z (stores old new ands imuls bmuls zeros (take m (dsts_of ys)) (take m (rhss_of ys))) out r out' → WriteIs z (stores_by old new ands imuls bmuls zeros ys) out r out'
-  writes_records out out' r y = writes_calm z old new ands imuls bmuls zeros (dsts_of ys) (rhss_of ys) m held (same_length ys) calm out out' r y
-
-  pub evaluates_records : (ws out out' : List ℕ) (r : Result ℕ Refusal) → EvaluateIs z (stores old new ands imuls bmuls zeros (take m (dsts_of ys)) (take m (rhss_of ys))) ws out r out'
-      → EvaluateIs z (stores_by old new ands imuls bmuls zeros ys) ws out r out'
-  evaluates_records ws out out' r y = evaluates_calm z old new ands imuls bmuls zeros (dsts_of ys) (rhss_of ys) m held (same_length ys) calm ws out out' r y

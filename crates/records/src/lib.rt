@@ -5,9 +5,10 @@ ghost use Rattle.std.specs.Prelude.{◌≡◌, ◌≤◌, [], ◌∷◌, take, l
 ghost use Rattle.refusal.specs.Refusals.{fault_in};
 ghost use Rattle.lower.specs.Stores.{stores, stores_of};
 ghost use Rattle.lower.specs.Faults.{pairs_fault, places_fault};
+ghost use Rattle.fusion.specs.Left.{lent};
 ghost use Rattle.fusion.specs.Answer.{told_fused, Fuses};
 ghost use Rattle.fill_back.specs.Filling.{FillsIs};
-ghost use Rattle.records.specs.Records.{dsts_of, rhss_of, records_in, lent_by, numbers_of, Stand, reloaded, rows_only, crowded, crowd_fault};
+ghost use Rattle.records.specs.Records.{dsts_of, rhss_of, records_in, lent_by, no_numbers, numbers_of, Stand, first_of, RestKept, reloaded, rows_only, crowded, crowd_fault, looked, found, FillsFirst, FusesFirst};
 
 use fusion::Counts;
 use lower::{LentSystem, Sizes};
@@ -46,20 +47,31 @@ struct Numbers {
 }
 
 impl Numbers {
-    fn of(defs: &[Definition]) -> Numbers
-        ensures are { result ≡ numbers_of defs.now }
-        ensures stand { Stand result }
-        ensures fit { result.len ≤ length defs.now }
+    // Arrays to unload to.
+    fn none() -> Numbers
+        ensures { result ≡ no_numbers }
+    {
+        Numbers {
+            len: 0,
+            dsts: [0u16; lower::MAX_DEFINITIONS],
+            rhss: [0u64; lower::MAX_DEFINITIONS],
+        }
+    }
+
+    // Takes those of the first records, to where the arrays stand: handed out by value they would be copied.
+    fn unload(&mut self, defs: &[Definition])
+        requires { self.old ≡ no_numbers }
+        ensures are { self.new ≡ numbers_of defs.now }
+        ensures stand { Stand self.new }
+        ensures fit { self.new.len ≤ length defs.now }
     {
         let len = defs.len().min(lower::MAX_DEFINITIONS);
-        let mut dsts = [0u16; lower::MAX_DEFINITIONS];
-        let mut rhss = [0u64; lower::MAX_DEFINITIONS];
         for k in 0..len {
             let d = defs[k];
-            dsts[k] = d.dst;
-            rhss[k] = d.rhs;
+            self.dsts[k] = d.dst;
+            self.rhss[k] = d.rhs;
         }
-        Numbers { len, dsts, rhss }
+        self.len = len;
     }
 
     // The system whose definitions these are.
@@ -170,6 +182,20 @@ impl LentRecords<'_> {
     }
 }
 
+// Filling back over these numbers of the first records, where there are not too many.
+fn fill_back_first(
+    system: &LentRecords<'_>,
+    numbers: &Numbers,
+    flags: &[u8],
+    assignment: &mut [u64],
+) -> Result<(), Refusal>
+    requires { Stand numbers.now }
+    ensures { FillsFirst (looked (length system.now.defs.now) system.now.sizes) (found system.now.sizes system.now.stores.old.now system.now.stores.new.now system.now.defs.now) system.now.sizes (first_of system.now numbers.now) flags.now assignment.old assignment.new (fault_in result) }
+{
+    system.check_crowd()?;
+    fill_back::fill_back(&numbers.system(system), flags, assignment)
+}
+
 // `fill_back`, where the definitions are records.
 pub fn fill_back_records(
     system: &LentRecords<'_>,
@@ -178,9 +204,82 @@ pub fn fill_back_records(
 ) -> Result<(), Refusal>
     ensures { FillsIs system.now.sizes (records_in system.now) flags.now assignment.old assignment.new (fault_in result) }
 {
-    system.check_crowd()?;
-    let numbers = Numbers::of(system.defs);
-    fill_back::fill_back(&numbers.system(system), flags, assignment)
+    let mut numbers = Numbers::none();
+    numbers.unload(system.defs);
+    fill_back_first(system, &numbers, flags, assignment)
+}
+
+// Fusing over the first `len` numbers of each kind. The rest of the two slices is as it was.
+fn fuse_numbers(
+    old: &[u64],
+    new: &mut [u64],
+    ands: &mut [u64],
+    imuls: &mut [u64],
+    bmuls: &mut [u64],
+    zeros: &mut [u64],
+    dsts: &mut [u16],
+    rhss: &mut [u64],
+    len: usize,
+    flags: &mut [u8],
+    z: Sizes,
+    slots: u64,
+) -> Result<Counts, Refusal>
+    requires dsts_there { len ≤ length dsts.old }
+    requires rhss_there { len ≤ length rhss.old }
+    ensures first { Fuses slots z (lent old.now new.old ands.old imuls.old bmuls.old zeros.old (take len dsts.old) (take len rhss.old) flags.old) (lent old.now new.new ands.new imuls.new bmuls.new zeros.new (take len dsts.new) (take len rhss.new) flags.new) (told_fused result) }
+    ensures dsts_kept { RestKept len dsts.old dsts.new }
+    ensures rhss_kept { RestKept len rhss.old rhss.new }
+{
+    fusion::fuse(
+        old,
+        new,
+        ands,
+        imuls,
+        bmuls,
+        zeros,
+        &mut dsts[..len],
+        &mut rhss[..len],
+        flags,
+        z,
+        slots,
+    )
+}
+
+// The same, where there are not too many records. The rest is as it was.
+fn fuse_first(
+    old: &[u64],
+    new: &mut [u64],
+    ands: &mut [u64],
+    imuls: &mut [u64],
+    bmuls: &mut [u64],
+    zeros: &mut [u64],
+    defs: &[Definition],
+    dsts: &mut [u16],
+    rhss: &mut [u64],
+    len: usize,
+    flags: &mut [u8],
+    z: Sizes,
+    slots: u64,
+) -> Result<Counts, Refusal>
+    requires dsts_there { len ≤ length dsts.old }
+    requires rhss_there { len ≤ length rhss.old }
+    ensures first { FusesFirst (looked (length defs.now) z) (found z old.now [] defs.now) slots z (lent old.now new.old ands.old imuls.old bmuls.old zeros.old (take len dsts.old) (take len rhss.old) flags.old) (lent old.now new.new ands.new imuls.new bmuls.new zeros.new (take len dsts.new) (take len rhss.new) flags.new) (told_fused result) }
+    ensures dsts_kept { RestKept len dsts.old dsts.new }
+    ensures rhss_kept { RestKept len rhss.old rhss.new }
+{
+    let records = LentRecords {
+        stores: TermStores { old, new: &[] },
+        ands: &*ands,
+        imuls: &*imuls,
+        bmuls: &*bmuls,
+        zeros: &*zeros,
+        defs,
+        sizes: z,
+    };
+    records.check_crowd()?;
+    fuse_numbers(
+        old, new, ands, imuls, bmuls, zeros, dsts, rhss, len, flags, z, slots,
+    )
 }
 
 // `fuse`, where the definitions are records. Those whose numbers were unloaded are made anew, so a refusal, which leaves each number, leaves each
@@ -200,34 +299,27 @@ pub fn fuse_records(
 ) -> Result<Counts, Refusal>
     ensures { Fuses slots z (lent_by old.now new.old ands.old imuls.old bmuls.old zeros.old defs.old flags.old) (lent_by old.now new.new ands.new imuls.new bmuls.new zeros.new defs.new flags.new) (told_fused result) }
 {
-    let records = LentRecords {
-        stores: TermStores { old, new: &[] },
-        ands: &*ands,
-        imuls: &*imuls,
-        bmuls: &*bmuls,
-        zeros: &*zeros,
-        defs: &*defs,
-        sizes: z,
-    };
-    records.check_crowd()?;
-    let Numbers {
-        len,
-        mut dsts,
-        mut rhss,
-    } = Numbers::of(&*defs);
-    let fused = fusion::fuse(
+    let mut numbers = Numbers::none();
+    numbers.unload(&*defs);
+    let fused = fuse_first(
         old,
         new,
         ands,
         imuls,
         bmuls,
         zeros,
-        &mut dsts[..len],
-        &mut rhss[..len],
+        &*defs,
+        &mut numbers.dsts,
+        &mut numbers.rhss,
+        numbers.len,
         flags,
         z,
         slots,
     );
-    reload(defs, &dsts[..len], &rhss[..len]);
+    reload(
+        defs,
+        &numbers.dsts[..numbers.len],
+        &numbers.rhss[..numbers.len],
+    );
     fused
 }

@@ -4,6 +4,7 @@
 --   MAX_RESULT          "over 16,384 terms in the result store"
 --   after z k           the sizes afterwards, by the counts that are told
 --   told_file            number and values of each case
+--   fault_text f        the line that says why a file is not fused: the number, with the offset of the field where the reader refuses
 --   WritesFile          of a fused system: the answer, and the lent bytes and flags afterwards
 --   WritesOut           the same of an outcome
 --   FusesBytes          the same from the bytes on
@@ -15,15 +16,17 @@ use Rattle.std.specs.Prelude.{ℕ, ◌-◌, ◌≤◌, ◌<◌, List, [], ◌∷
 use Rattle.std.proofs.lemmas.List.Edits.{sets}
 use Rattle.refusal.specs.declared.Refusal.{Refusal}
 use Rattle.refusal.specs.declared.Refusal.TheVariants.{Full, Room}
+use Rattle.refusal.specs.Refusals.{number_of}
 use Rattle.word.specs.Answers as T
 use Rattle.word.specs.Answers.{Told, given}
 use Rattle.lower.specs.declared.Sizes.{Sizes}
 use Rattle.house_write.specs.Write.{WriteIs}
 use Rattle.fusion.specs.declared.Counts.{Counts}
 use Rattle.fusion.specs.Left.{Lent, output}
+use Rattle.text.specs.Text.{refused_text, refused_at_text}
 use Rattle.report.specs.declared.outcome.FusedSystem.{FusedSystem}
 use Rattle.report.specs.declared.outcome.Fault.{Fault}
-use Rattle.report.specs.declared.outcome.Fault.TheVariants.{Refused}
+use Rattle.report.specs.declared.outcome.Fault.TheVariants.{Unread, Refused}
 use Rattle.report.specs.declared.FusedFile.{FusedFile}
 use Rattle.report.specs.Outcome.{made, fault_number, Comes}
 
@@ -48,6 +51,10 @@ after z k =
 abbrev pub told_file : Result FusedFile Fault → Told
 told_file (Ok f) = given (f.length ∷ f.wires ∷ [])
 told_file (Err f) = T.refused (fault_number f)
+
+abbrev pub fault_text : Fault → List ℕ
+fault_text (Unread f) = refused_at_text (number_of f.refusal) f.at
+fault_text (Refused r) = refused_text (number_of r)
 
 -- z and l are what fusing left; the flags are looked at first
 pub data WritesFile (z : Sizes) (l : Lent) (out flags : List ℕ) : Result FusedFile Fault → List ℕ → List ℕ → Type 0 where

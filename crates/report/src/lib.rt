@@ -6,7 +6,7 @@ ghost use Rattle.text.specs.Text.{ok_text, Puts, Enough};
 ghost use Rattle.report.specs.Outcome.{nine_of, told_outcome};
 ghost use Rattle.report.specs.Steps.{Tallied, lent_in};
 ghost use Rattle.report.specs.Report.{line_of, Answered, Reported};
-ghost use Rattle.report.specs.File.{after, WritesFile, FusesBytes, FusesFile};
+ghost use Rattle.report.specs.File.{after, fault_text, WritesFile, FusesBytes, FusesFile};
 
 use lower::{LentSystem, Sizes};
 use operand::TermStores;
@@ -59,7 +59,7 @@ fn outcome_line(outcome: Result<FusedSystem, Fault>, out: &mut [u8]) -> Result<u
 {
     match outcome {
         Ok(fused) => fused_line(fused, out),
-        Err(fault) => text::refused_line(fault.refusal(), out),
+        Err(fault) => text::refused_line(fault.refusal().number(), out),
     }
 }
 
@@ -88,7 +88,7 @@ pub fn report(input: &[u8], out: &mut [u8]) -> Result<usize, Refusal>
     ensures enough { Enough 339 out.old result }
 {
     if MAX_INPUT < input.len() {
-        return text::refused_line(Refusal::Full, out);
+        return text::refused_line(Refusal::Full.number(), out);
     }
     outcome_line(answer(input), out)
 }
@@ -176,4 +176,15 @@ pub fn fuse_file(
         return Err(Fault::Refused(Refusal::Full));
     }
     fuse_bytes(input, slots, out, flags)
+}
+
+// The line of `fuse` for a file that is not fused.
+pub fn fault_line(fault: Fault, out: &mut [u8]) -> Result<usize, Refusal>
+    ensures puts { Puts (fault_text fault) out.old result out.new }
+    ensures enough { Enough 53 out.old result }
+{
+    match fault {
+        Fault::Unread(unread) => text::refused_at_line(unread.refusal.number(), unread.at, out),
+        Fault::Refused(refusal) => text::refused_line(refusal.number(), out),
+    }
 }

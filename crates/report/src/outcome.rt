@@ -9,7 +9,6 @@ use fusion::Counts;
 use house_file::FileFault;
 use lower::Sizes;
 use refusal::Refusal;
-use std::fmt;
 
 // The sizes of what was read, and the counts of fusing.
 #[derive(Clone, Copy)]
@@ -49,16 +48,6 @@ impl From<Refusal> for Fault {
 
     fn from(refusal: Refusal) -> Fault {
         Fault::Refused(refusal)
-    }
-}
-
-// As the programs print it: by its number, and the offset where there is one.
-impl fmt::Display for Fault {
-    fn fmt<W: fmt::Write>(&self, f: &mut fmt::Formatter<W>) -> fmt::Result {
-        match self {
-            Fault::Unread(fault) => write!(f, "{} at {}", fault.refusal, fault.at),
-            Fault::Refused(refusal) => write!(f, "{refusal}"),
-        }
     }
 }
 

@@ -18,12 +18,14 @@ use operand::PushInner;
 use refusal::Refusal;
 use shift::{Composition, Shift};
 
-// An answer's values, from the front on: what would stand past the end is dropped.
+// An answer's values, from the front on: what would stand past the end is dropped. One by one: a call that copies costs more than the few
+// that there are.
 fn lay(answer: &[u64], values: &mut [u64])
     ensures { values.new ≡ sets values.old 0 answer.now }
 {
-    let n = answer.len().min(values.len());
-    values[..n].copy_from_slice(&answer[..n]);
+    for i in 0..answer.len() {
+        house_file::put(&mut *values, i, answer[i]);
+    }
 }
 
 fn tell(answer: &[u64], values: &mut [u64]) -> u8

@@ -2,12 +2,10 @@
 #![tactic(auto)]
 
 ghost use Rattle.std.specs.Prelude.{◌≡◌, ◌+◌, ◌^◌, ◌≤◌, ◌<◌, length};
-ghost use Rattle.refusal.specs.Refusals.{number_of};
 ghost use Rattle.text.specs.Decimal.{decimal};
 ghost use Rattle.text.specs.Text.{refused_text, refused_at_text, value_text, values_text, ok_text, lines_text, PutsAt, Puts, Enough};
 ghost use Rattle.text.specs.Committed.{committed_from, flag_text, Lines};
 
-use house_file::FileFault;
 use refusal::Refusal;
 
 // Bytes at a place, and the place after them. A byte past the end is dropped, so the same functions count a text.
@@ -118,32 +116,30 @@ fn put_lines(flags: &[u8], out: &mut [u8]) -> usize
 // Kept: four functions: one over a closure that puts the text is no plainer, its clause would name what the closure leaves.
 
 // `refused N` and a newline.
-pub fn refused_line(refusal: Refusal, out: &mut [u8]) -> Result<usize, Refusal>
-    ensures puts { Puts (refused_text (number_of refusal)) out.old result out.new }
+pub fn refused_line(number: u8, out: &mut [u8]) -> Result<usize, Refusal>
+    ensures puts { Puts (refused_text number) out.old result out.new }
     ensures enough { Enough 29 out.old result }
 {
-    let number = refusal.number() as usize;
     let mut none = [0u8; 1];
-    let n = put_refused(number, &mut none);
+    let n = put_refused(number as usize, &mut none);
     if out.len() < n {
         return Err(Refusal::Room);
     }
-    put_refused(number, out);
+    put_refused(number as usize, out);
     Ok(n)
 }
 
 // `refused N at OFFSET` and a newline.
-pub fn refused_at_line(fault: FileFault, out: &mut [u8]) -> Result<usize, Refusal>
-    ensures puts { Puts (refused_at_text (number_of fault.refusal) fault.at) out.old result out.new }
+pub fn refused_at_line(number: u8, at: usize, out: &mut [u8]) -> Result<usize, Refusal>
+    ensures puts { Puts (refused_at_text number at) out.old result out.new }
     ensures enough { Enough 53 out.old result }
 {
-    let number = fault.refusal.number() as usize;
     let mut none = [0u8; 1];
-    let n = put_refused_at(number, fault.at, &mut none);
+    let n = put_refused_at(number as usize, at, &mut none);
     if out.len() < n {
         return Err(Refusal::Room);
     }
-    put_refused_at(number, fault.at, out);
+    put_refused_at(number as usize, at, out);
     Ok(n)
 }
 

@@ -1,26 +1,18 @@
 -- The first numbers are those of the records, and what is written from them is written from all. Assumes nothing.
-use Rattle.std.proofs.Common.{◌∙◌}
-use Rattle.std.proofs.lemmas.Result.{err_from_is_err_and}
-use Rattle.lower.specs.declared.Sizes.{Sizes}
+use mathlib.Core.Path.{subst}
 use Rattle.lower.specs.Stores.{Stores}
-use Rattle.house_write.specs.Write.{WriteIs}
-use Rattle.records.specs.Records.{records_in}
-use Rattle.records.proofs.Unloaded.{len_is, taken, moved}
-use Rattle.records.proofs.Writings.{writes_records, writes_crowd}
+use Rattle.std.proofs.Common.{length}
+use Rattle.records.specs.Records.{looked, found, WritesFirst}
+use Rattle.records.proofs.Alls.{writes_records}
+use Rattle.records.proofs.Unloaded.{len_is, taken}
 use Rattle.records.proofs.files.write_records.Goals as goal
-
-pub returns-in_err-check_crowd : goal.returns-in_err-check_crowd
-returns-in_err-check_crowd c =
-    let s = c.args.system.now in
-    let p = err_from_is_err_and c.from_residual.result c.from_residual.ensures.1 in
-    rw (p.1, p.2) (writes_crowd s.sizes (records_in s) c.args.out.now _ c.in_err-check_crowd.ensures)
 
 pub returns : goal.returns
 returns c =
     let s = c.args.system.now in
     let ys = s.defs.now in
-    let n = c.of-numbers.result in
-    let e = c.of-numbers.ensures.are in
-    writes_records s.sizes s.stores.old.now s.stores.new.now s.ands.now s.imuls.now s.bmuls.now s.zeros.now ys n.len (len_is ys n e) c.in_ok-check_crowd.ensures c.args.out.now c.write.new.out c.write.result
-    (moved (λ (z : Sizes) (t : Stores). WriteIs z t c.args.out.now c.write.result c.write.new.out) _ _ _ _ c.system.ensures.same_sizes
-    (c.system.ensures.of_numbers ∙ taken ys n e s.stores.old.now s.stores.new.now s.ands.now s.imuls.now s.bmuls.now s.zeros.now) c.write.ensures)
+    let n = c.unload.new.self in
+    let e = c.unload.ensures.are in
+    writes_records s.sizes s.stores.old.now s.stores.new.now s.ands.now s.imuls.now s.bmuls.now s.zeros.now ys n.len (len_is ys n e) c.args.out.now c.write_first.new.out c.write_first.result
+    (subst (λ (t : Stores). WritesFirst (looked (length ys) s.sizes) (found s.sizes s.stores.old.now s.stores.new.now ys) s.sizes t c.args.out.now c.write_first.new.out c.write_first.result)
+    (taken ys n e s.stores.old.now s.stores.new.now s.ands.now s.imuls.now s.bmuls.now s.zeros.now) c.write_first.ensures)

@@ -1,11 +1,13 @@
 -- One more number of each kind. Assumes nothing.
+use Prim.Native.Nat.{min}
 use Rattle.std.proofs.Common.{◌≡◌, ℕ, ◌+◌, List, length, get_or, refl, ap, ◌∙◌, arith}
 use lib.ListN.{set, get_or-map, length-map}
 use Rattle.records.specs.Records.{dsts_of, rhss_of, numbers_of}
 use Rattle.records.specs.declared.Definition.{Definition}
+use Rattle.records.specs.declared.Numbers.{Numbers}
 use Rattle.records.proofs.Laws.{none, front_more}
 use Rattle.records.proofs.Unloaded.{blank_length}
-use Rattle.records.proofs.Numbers.of.Goals as goal
+use Rattle.records.proofs.Numbers.unload.Goals as goal
 
 abbrev dst_of : Definition → ℕ
 dst_of d = d.dst
@@ -14,7 +16,7 @@ abbrev rhs_of : Definition → ℕ
 rhs_of d = d.rhs
 
 pub loop-k-init : goal.loop-k-init
-loop-k-init c = record { dsts_are = refl; rhss_are = refl }
+loop-k-init c = record { dsts_are = ap (λ (n : Numbers). n.dsts) c.requires; rhss_are = ap (λ (n : Numbers). n.rhss) c.requires }
 
 pub loop-k-preserved : goal.loop-k-preserved
 loop-k-preserved c =
@@ -32,8 +34,9 @@ loop-k-preserved c =
 pub returns-clause-are : goal.returns-clause-are
 unfolding numbers_of
 returns-clause-are c =
+    let m : c.min-len.result ≡ min (length c.args.defs.now) 1024 = omega arith in
     let e : c.loop-k.k ≡ c.min-len.result = omega arith in
-    rw (← c.min-len.ensures, ← e, ← c.loop-k.invariant.dsts_are, ← c.loop-k.invariant.rhss_are)
+    rw (← m, ← e, ← c.loop-k.invariant.dsts_are, ← c.loop-k.invariant.rhss_are)
 
 pub returns-clause-stand : goal.returns-clause-stand
 returns-clause-stand c =
