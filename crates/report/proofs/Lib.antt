@@ -5,3 +5,4 @@ pub mod Theorem
 pub mod Example
 pub mod Long
 pub mod Standing
+pub mod Shown

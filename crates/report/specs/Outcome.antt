@@ -2,13 +2,14 @@
 --
 --   made room           the stores: as long as the limits of 6 ask, a result store of so many terms, and a flag a wire; all 0
 --   fault_number f      the paper's number of a refusal
+--   shown_text f         what is displayed of it: the number, with the offset of the field where the reader refuses
 --   ReadLent b l r l'   `read` answers r to the bytes b and leaves l' of the stores l
 --   Comes slots b l o l'    what reading and fusing come to, and what they leave: a refusal of the reader with its offset, one of fusing,
 --                       or the sizes of what was read and the counts of fusing
 --   told_outcome o       the paper's number of a refusal, or nine values
 --
 -- Assumes nothing.
-use Rattle.std.specs.Prelude.{◌≡◌, ℕ, ◌-◌, List, [], ◌∷◌, replicate, Result, Ok, Err}
+use Rattle.std.specs.Prelude.{◌≡◌, ℕ, ◌-◌, List, [], ◌∷◌, ◌++◌, replicate, Result, Ok, Err}
 use Rattle.refusal.specs.declared.Refusal.{Refusal}
 use Rattle.refusal.specs.Refusals.{number_of}
 use Rattle.word.specs.Answers as T
@@ -20,6 +21,8 @@ use Rattle.house_read.specs.Answer.{ReadIs}
 use Rattle.fusion.specs.declared.Counts.{Counts}
 use Rattle.fusion.specs.Left.{Lent, lent}
 use Rattle.fusion.specs.Answer.{told_fused, Fuses}
+use Rattle.text.specs.Decimal.{decimal}
+use Rattle.text.specs.Text.{AT}
 use Rattle.report.specs.declared.outcome.FusedSystem.{FusedSystem}
 use Rattle.report.specs.declared.outcome.Fault.{Fault}
 use Rattle.report.specs.declared.outcome.Fault.TheVariants.{Unread, Refused}
@@ -33,6 +36,10 @@ made room =
 abbrev pub fault_number : Fault → ℕ
 fault_number (Unread f) = number_of f.refusal
 fault_number (Refused r) = number_of r
+
+abbrev pub shown_text : Fault → List ℕ
+shown_text (Unread f) = decimal (number_of f.refusal) ++ (AT ++ decimal f.at)
+shown_text (Refused r) = decimal (number_of r)
 
 pub record ReadLent (bytes : List ℕ) (l : Lent) (r : Result FileRead FileFault) (l' : Lent) : Type 0 where
   pub reads : ReadIs bytes l.old l.ands l.imuls l.bmuls l.zeros l.dsts l.rhss r l'.old l'.ands l'.imuls l'.bmuls l'.zeros l'.dsts l'.rhss

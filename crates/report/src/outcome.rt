@@ -1,14 +1,15 @@
 // Reads a house file into lent stores, and fuses what was read.
-ghost use Rattle.std.specs.Prelude.{◌≡◌};
+ghost use Rattle.std.specs.Prelude.{◌≡◌, Some};
 ghost use Rattle.refusal.specs.Refusals.{number_of};
 ghost use Rattle.fusion.specs.Left.{lent};
 ghost use Rattle.report.specs.declared.outcome.Fault.TheVariants.{Unread, Refused};
-ghost use Rattle.report.specs.Outcome.{fault_number, Comes};
+ghost use Rattle.report.specs.Outcome.{fault_number, shown_text, Comes};
 
 use fusion::Counts;
 use house_file::FileFault;
 use lower::Sizes;
 use refusal::Refusal;
+use std::fmt;
 
 // The sizes of what was read, and the counts of fusing.
 #[derive(Clone, Copy)]
@@ -51,6 +52,21 @@ impl From<Refusal> for Fault {
     }
 }
 
+// By its number, and the offset where there is one. No program prints by it: `fault_line` gives the whole line.
+impl fmt::Display for Fault {
+    ghost output = { λ fault. Some (shown_text fault) };
+
+    fn fmt<W: fmt::Write>(&self, f: &mut fmt::Formatter<W>) -> fmt::Result {
+        match self {
+            Fault::Unread(fault) => {
+                let at = fault.at;
+                write!(f, "{} at {at}", fault.refusal.number())
+            }
+            Fault::Refused(refusal) => write!(f, "{}", refusal.number()),
+        }
+    }
+}
+
 // Kept: the nine lists, as `house_read::read` and `fusion::fuse` take them.
 pub fn read_and_fuse(
     input: &[u8],
@@ -75,4 +91,29 @@ pub fn read_and_fuse(
         sizes: read.sizes,
         counts,
     })
+}
+
+#[cfg(test)]
+mod tests {
+    use super::*;
+    use std::fmt::InlineText;
+
+    #[test]
+    fn displays_faults(rt: HostRuntime) {
+        let refusal = Refusal::Wire;
+        let unread = Fault::from(FileFault { refusal, at: 16 });
+        let far = Fault::from(FileFault {
+            refusal,
+            at: usize::MAX,
+        });
+        let unfused = Fault::from(Refusal::Room);
+        for (fault, text) in [
+            (unread, "5 at 16"),
+            (far, "5 at 18446744073709551615"),
+            (unfused, "12"),
+        ] {
+            assert_eq!(rt; InlineText::<32>::of(fault).as_str(), text);
+        }
+        assert_eq!(rt; InlineText::<32>::of(refusal).as_str(), "5");
+    }
 }
