@@ -5,4 +5,4 @@ pub mod Theorem
 pub mod Example
 pub mod Long
 pub mod Standing
-pub mod Shown
+pub mod Displayed

@@ -2,7 +2,7 @@
 --
 --   made room           the stores: as long as the limits of 6 ask, a result store of so many terms, and a flag a wire; all 0
 --   fault_number f      the paper's number of a refusal
---   shown_text f         what is displayed of it: the number, with the offset of the field where the reader refuses
+--   display_text f      what `{}` displays of it: the number, with the offset of the field where the reader refuses
 --   ReadLent b l r l'   `read` answers r to the bytes b and leaves l' of the stores l
 --   Comes slots b l o l'    what reading and fusing come to, and what they leave: a refusal of the reader with its offset, one of fusing,
 --                       or the sizes of what was read and the counts of fusing
@@ -37,9 +37,9 @@ abbrev pub fault_number : Fault → ℕ
 fault_number (Unread f) = number_of f.refusal
 fault_number (Refused r) = number_of r
 
-abbrev pub shown_text : Fault → List ℕ
-shown_text (Unread f) = decimal (number_of f.refusal) ++ (AT ++ decimal f.at)
-shown_text (Refused r) = decimal (number_of r)
+abbrev pub display_text : Fault → List ℕ
+display_text (Unread f) = decimal (number_of f.refusal) ++ (AT ++ decimal f.at)
+display_text (Refused r) = decimal (number_of r)
 
 pub record ReadLent (bytes : List ℕ) (l : Lent) (r : Result FileRead FileFault) (l' : Lent) : Type 0 where
   pub reads : ReadIs bytes l.old l.ands l.imuls l.bmuls l.zeros l.dsts l.rhss r l'.old l'.ands l'.imuls l'.bmuls l'.zeros l'.dsts l'.rhss

@@ -3,7 +3,7 @@ ghost use Rattle.std.specs.Prelude.{◌≡◌, Some};
 ghost use Rattle.refusal.specs.Refusals.{number_of};
 ghost use Rattle.fusion.specs.Left.{lent};
 ghost use Rattle.report.specs.declared.outcome.Fault.TheVariants.{Unread, Refused};
-ghost use Rattle.report.specs.Outcome.{fault_number, shown_text, Comes};
+ghost use Rattle.report.specs.Outcome.{fault_number, display_text, Comes};
 
 use fusion::Counts;
 use house_file::FileFault;
@@ -54,7 +54,7 @@ impl From<Refusal> for Fault {
 
 // By its number, and the offset where there is one. No program prints by it: `fault_line` gives the whole line.
 impl fmt::Display for Fault {
-    ghost output = { λ fault. Some (shown_text fault) };
+    ghost output = { λ fault. Some (display_text fault) };
 
     fn fmt<W: fmt::Write>(&self, f: &mut fmt::Formatter<W>) -> fmt::Result {
         match self {
@@ -113,6 +113,11 @@ mod tests {
             (unfused, "12"),
         ] {
             assert_eq!(rt; InlineText::<32>::of(fault).as_str(), text);
+            assert_eq!(rt;
+                InlineText::<32>::of(format_args!("{fault:>30}")).as_str(),
+                text,
+                "options"
+            );
         }
         assert_eq!(rt; InlineText::<32>::of(refusal).as_str(), "5");
     }
